@@ -1,0 +1,6 @@
+mod Edited
+mod Filled
+mod Held
+mod Reweighing
+mod Writes
+mod Zeros

@@ -1,0 +1,4 @@
+pub mod Arrays
+pub mod Edits
+pub mod Refusals
+pub mod Drawn

@@ -1,0 +1,7 @@
+// Worked examples, as tests of drawings, sheets and their refusals.
+#[cfg(test)]
+mod drawings;
+#[cfg(test)]
+mod limits;
+#[cfg(test)]
+mod sheets;

@@ -1,0 +1,9 @@
+pub mod Runs
+pub mod Bytes
+pub mod Holding
+pub mod Sizes
+pub mod Refusals
+pub mod Nets
+pub mod Reading
+pub mod Writing
+pub mod Windows

@@ -1,0 +1,5 @@
+use native.Mathlib.Omega.{arith}
+use Rattle.net.proofs.interface.transition_label_number.Needs as need
+
+pub returns-in-Some : need.returns-in-Some
+returns-in-Some g c = (c .in-Some .ensures tt .1, omega (arith, c .in-Some .ensures tt .1, g .N·Net .lawful (c .args .net .now) .transitionLabels .0 (c .args .transition .0)))

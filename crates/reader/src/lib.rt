@@ -1,0 +1,5 @@
+// A sheet answers as a net, from the caller's bytes.
+mod bits;
+mod check;
+pub mod refusal;
+pub mod sheet;

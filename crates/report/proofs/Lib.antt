@@ -1,0 +1,5 @@
+mod Decimals
+mod Framing
+mod Growth
+mod Ignored
+mod Telling

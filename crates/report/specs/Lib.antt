@@ -1,0 +1,4 @@
+pub mod Frames
+pub mod Listing
+pub mod Sides
+pub mod Texts

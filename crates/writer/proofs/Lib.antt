@@ -1,0 +1,2 @@
+mod Inking
+mod RoundTrips
