@@ -13,25 +13,44 @@ use Rattle.format.specs.Fields.{Field, each, packed, bytesFor, fillFor, fieldA
 abbrev pub formNumber : ℕ
 formNumber = 1
 
+-- the widths of the fields, in bits: the form, the two counts, a label, a weight; and of the first three together
+abbrev pub formWidth : ℕ
+formWidth = 4
+
+abbrev pub placesWidth : ℕ
+placesWidth = 7
+
+abbrev pub transitionsWidth : ℕ
+transitionsWidth = 8
+
+abbrev pub labelWidth : ℕ
+labelWidth = 10
+
+abbrev pub weightWidth : ℕ
+weightWidth = 8
+
+abbrev pub headWidth : ℕ
+headWidth = formWidth + placesWidth + transitionsWidth
+
 -- the bytes of the longest sheet
 abbrev pub longestSheet : ℕ
 longestSheet = 16627
 
 -- the form, the number of places and the number of transitions
 abbrev pub headOf : Model → List Field
-headOf m = (4, formNumber) ∷ (7, m .places) ∷ (8, m .transitions) ∷ []
+headOf m = (formWidth, formNumber) ∷ (placesWidth, m .places) ∷ (transitionsWidth, m .transitions) ∷ []
 
 -- the label of each place
 abbrev pub labelsOf : Model → List Field
-labelsOf m = each (λ p. (10, m .placeLabel p) ∷ []) (m .places)
+labelsOf m = each (λ p. (labelWidth, m .placeLabel p) ∷ []) (m .places)
 
 -- a bag over n places
 abbrev pub weightsOf : (ℕ → ℕ) → ℕ → List Field
-weightsOf bag n = each (λ p. (8, bag p) ∷ []) n
+weightsOf bag n = each (λ p. (weightWidth, bag p) ∷ []) n
 
 -- a transition: its label, its cause and its effect
 abbrev pub rowOf : Model → ℕ → List Field
-rowOf m t = (10, m .transitionLabel t) ∷ (weightsOf (m .cause t) (m .places) ++ weightsOf (m .effect t) (m .places))
+rowOf m t = (labelWidth, m .transitionLabel t) ∷ (weightsOf (m .cause t) (m .places) ++ weightsOf (m .effect t) (m .places))
 
 abbrev pub rowsOf : Model → List Field
 rowsOf m = each (rowOf m) (m .transitions)
@@ -43,48 +62,51 @@ fieldsOf m = headOf m ++ (labelsOf m ++ rowsOf m)
 abbrev pub sheetOf : Model → List ℕ
 sheetOf m = packed (fieldsOf m)
 
--- the bit at which the row of transition t begins, where there are n places; at the number of transitions the fields end
+-- the bit at which the label of place p begins, and, where there are n places, the row of transition t; at the number of transitions the fields end
+abbrev pub labelAt : ℕ → ℕ
+labelAt p = headWidth + labelWidth * p
+
 abbrev pub rowAt : ℕ → ℕ → ℕ
-rowAt n t = 19 + 10 * n + t * (10 + 16 * n)
+rowAt n t = labelAt n + t * (labelWidth + 2 * weightWidth * n)
 
 abbrev pub formOf : List ℕ → ℕ
-formOf bs = fieldAt bs 0 4
+formOf bs = fieldAt bs 0 formWidth
 
 abbrev pub placesOf : List ℕ → ℕ
-placesOf bs = fieldAt bs 4 7
+placesOf bs = fieldAt bs formWidth placesWidth
 
 abbrev pub transitionsOf : List ℕ → ℕ
-transitionsOf bs = fieldAt bs 11 8
+transitionsOf bs = fieldAt bs (formWidth + placesWidth) transitionsWidth
 
 abbrev pub bitsOf : List ℕ → ℕ
 bitsOf bs = rowAt (placesOf bs) (transitionsOf bs)
 
 -- the weights that stand from bit o on
 abbrev pub weightsFrom : List ℕ → ℕ → ℕ → ℕ
-weightsFrom bs o p = fieldAt bs (o + 8 * p) 8
+weightsFrom bs o p = fieldAt bs (o + weightWidth * p) weightWidth
 
 -- the weights of transition t that begin `skip` bits after its label, 0 outside the range
 abbrev pub weightAt : List ℕ → ℕ → ℕ → ℕ → ℕ
-weightAt bs skip t p = cond (ltb t (transitionsOf bs) && ltb p (placesOf bs)) (weightsFrom bs (rowAt (placesOf bs) t + 10 + skip) p) 0
+weightAt bs skip t p = cond (ltb t (transitionsOf bs) && ltb p (placesOf bs)) (weightsFrom bs (rowAt (placesOf bs) t + labelWidth + skip) p) 0
 
 -- the net of a sheet
 abbrev pub netOf : List ℕ → Model
 netOf bs = record {
   places = placesOf bs;
   transitions = transitionsOf bs;
-  placeLabel = λ p. cond (ltb p (placesOf bs)) (fieldAt bs (19 + 10 * p) 10) 0;
-  transitionLabel = λ t. cond (ltb t (transitionsOf bs)) (fieldAt bs (rowAt (placesOf bs) t) 10) 0;
+  placeLabel = λ p. cond (ltb p (placesOf bs)) (fieldAt bs (labelAt p) labelWidth) 0;
+  transitionLabel = λ t. cond (ltb t (transitionsOf bs)) (fieldAt bs (rowAt (placesOf bs) t) labelWidth) 0;
   cause = weightAt bs 0;
-  effect = weightAt bs (8 * placesOf bs);
+  effect = weightAt bs (weightWidth * placesOf bs);
 }
 
 -- the size of the n weights of transition t that begin `skip` bits after its label
 abbrev pub sizeAt : List ℕ → ℕ → ℕ → ℕ → ℕ
-sizeAt bs n skip t = sumBelow n (weightsFrom bs (rowAt n t + 10 + skip))
+sizeAt bs n skip t = sumBelow n (weightsFrom bs (rowAt n t + labelWidth + skip))
 
 -- cause and effect of transition t, of n places, have sizes within the limit
 abbrev pub lightAt : List ℕ → ℕ → ℕ → Bool
-lightAt bs n t = leb (sizeAt bs n 0 t) largestBag && leb (sizeAt bs n (8 * n) t) largestBag
+lightAt bs n t = leb (sizeAt bs n 0 t) largestBag && leb (sizeAt bs n (weightWidth * n) t) largestBag
 
 -- no cause or effect has a size past the limit
 abbrev pub lightRows : List ℕ → Bool
@@ -102,7 +124,7 @@ pub record LawfulSheet (bs : List ℕ) : Type 0 where
   pub transitions : transitionsOf bs ≤ mostTransitions
   pub sized : length bs ≡ bytesFor (bitsOf bs)
   pub causes : (t : ℕ) → t < transitionsOf bs → sizeAt bs (placesOf bs) 0 t ≤ largestBag
-  pub effects : (t : ℕ) → t < transitionsOf bs → sizeAt bs (placesOf bs) (8 * placesOf bs) t ≤ largestBag
+  pub effects : (t : ℕ) → t < transitionsOf bs → sizeAt bs (placesOf bs) (weightWidth * placesOf bs) t ≤ largestBag
   pub filled : fillOf bs ≡ 0
 
 -- The bytes are the sheet of some lawful net.

@@ -3,9 +3,7 @@ ghost use mathlib.Core.Path.{_≡_};
 ghost use mathlib.Core.Bool.{true, false};
 ghost use Rattle.std.specs.Options.{Cases};
 ghost use Rattle.report.specs.Frames.{framed, sheetIn, afterFrame};
-
-// The bytes of the longest sheet.
-pub(crate) const LONGEST_SHEET: usize = 16627;
+use format::LONGEST_SHEET;
 
 // The sheet in the frame at the front of the bytes, and the bytes after the frame, if a whole frame stands there.
 pub(crate) fn split_frame(bytes: &[u8]) -> Option<(&[u8], &[u8])>

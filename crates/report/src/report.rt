@@ -4,7 +4,6 @@ ghost use Rattle.report.specs.Frames.{sheetIn, afterFrame, leftRefusal, rightR
 ghost use Rattle.report.specs.Listing.{listingOf, Suffices};
 ghost use Rattle.report.specs.Sides.{Tells};
 ghost use Rattle.report.specs.Texts.{textOf};
-use super::frame::LONGEST_SHEET;
 use super::frame::split_frame;
 use super::line::push_line;
 use super::side::Side;
@@ -12,6 +11,7 @@ use super::side::SideRefusal;
 use super::side::read_frame;
 use super::side::read_sheet;
 use super::text::Text;
+use format::LONGEST_SHEET;
 
 /// As many bytes of an input as can count: two frames, each with the longest sheet.
 pub const INPUT_LIMIT: usize = 2 * (2 + LONGEST_SHEET);

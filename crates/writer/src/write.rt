@@ -11,6 +11,7 @@ ghost use Rattle.writer.specs.Refusals.{refusalOf, bufferRefusal};
 ghost use Rattle.writer.specs.RoundTrip.{RoundTrip};
 use super::pen::Pen;
 use super::refusal::WriteRefusal;
+use format::LONGEST_SHEET;
 use net::bag::Bag;
 use net::bag::weight;
 use net::interface::Net;
@@ -18,9 +19,6 @@ use net::interface::place_label_number;
 use net::interface::transition_label_number;
 use net::numbers::PlaceNo;
 use net::numbers::TransitionNo;
-
-/// The bytes of the longest sheet: a buffer has to have as many.
-pub const LONGEST_SHEET: usize = 16627;
 
 // Writes the label of each place.
 fn write_labels<N: Net>(net: &N, buffer: &mut [u8], pen: Pen) -> Pen
@@ -75,9 +73,11 @@ pub fn write<N: Net>(net: &N, buffer: &mut [u8]) -> Result<usize, WriteRefusal>
     ensures after { λ r. ⌜ Cases r
         (λ n. (n ≡ length (sheetOf (model (now (net .entry))))) × (now (buffer .exit) ≡ sheetOf (model (now (net .entry))) ++ drop n (now (buffer .entry))))
         (λ _. now (buffer .exit) ≡ now (buffer .entry)) ⌝ }
+    ensures short { λ r. ⌜ Cases r (λ n. n ≤ 16627) (λ _. Unit {0}) ⌝ }
     ensures round_trip { λ r. ⌜ Cases r (λ n. RoundTrip (model (now (net .entry))) (take n (now (buffer .exit)))) (λ _. Unit {0}) ⌝ }
 {
-    if buffer.len() < LONGEST_SHEET {
+    let room = buffer.len();
+    if room < LONGEST_SHEET {
         return Err(WriteRefusal::ShortBuffer);
     }
     let form = Pen::start().push(buffer, 4, 1);

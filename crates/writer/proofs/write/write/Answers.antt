@@ -10,6 +10,7 @@ use Rattle.format.specs.Sheets.{fieldsOf, sheetOf}
 use Rattle.writer.specs.Ink.{Writes}
 use Rattle.writer.proofs.Inking.{ink-start, writes-join, writes-value, sheet-written}
 use Rattle.format.proofs.Sizes.{size-same, size-rows, sheet-room}
+use Rattle.format.proofs.Writing.{sheet-short}
 use Rattle.writer.proofs.RoundTrips.{round-trip}
 use Rattle.writer.proofs.write.write.Needs as need
 
@@ -82,7 +83,8 @@ returns g c =
     (c .finish .ensures buf (spelt 0 (fieldsOf m)) (0 + size (fieldsOf m)) (all .inked buf 0 0 (ink-start buf _ _ _ (c .start .ensures .0) (c .start .ensures .1) (c .start .ensures .2)))) in
     let after : c .finish .last .buffer ≡ sheetOf m ++ drop (c .finish .result) buf = done .1 ∙ ap (λ (k : ℕ). sheetOf m ++ drop k buf) (sym (done .0)) in
     record {
-      refusal = sym (cond-false (ltb (length buf) 16627) 31 0 (le-ltb (length buf) 16627 (c .if-buffer-lt-LONGEST-SHEET .left)));
+      refusal = sym (cond-false (ltb (length buf) 16627) 31 0 (le-ltb (length buf) 16627 (c .if-room-lt-LONGEST-SHEET .left)));
       after = (done .0, after);
+      short = omega (arith, done .0, sheet-short m (g .N·Net .lawful (c .args .net .now)));
       round-trip = round-trip m (g .N·Net .lawful (c .args .net .now)) (c .finish .result) (c .finish .last .buffer) (drop (c .finish .result) buf) (done .0) after;
     }
