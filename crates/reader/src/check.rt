@@ -10,21 +10,14 @@ use super::bits::form;
 use super::bits::octet;
 use super::bits::places;
 use super::bits::transitions;
+use super::offsets::LABEL;
+use super::offsets::WEIGHT;
+use super::offsets::row_at;
 use super::refusal::SheetRefusal;
+use format::FORM;
 use net::limits::LARGEST_BAG;
 use net::limits::MOST_PLACES;
 use net::limits::MOST_TRANSITIONS;
-
-// The form of a sheet.
-const FORM: u8 = 1;
-
-// The bit at which the row of transition t begins, where there are n places.
-pub(crate) fn row_at(n: u8, t: u8) -> usize
-    requires { ⌜ n ≤ 64 ⌝ }
-    ensures { λ r. ⌜ r ≡ rowAt n t ⌝ ∗ ⌜ r ≤ 270000 ⌝ }
-{
-    19 + 10 * n as usize + t as usize * (10 + 16 * n as usize)
-}
 
 // The size of the n weights from bit `at` on.
 fn size_from(bytes: &[u8], at: usize, n: u8) -> u16
@@ -35,7 +28,7 @@ fn size_from(bytes: &[u8], at: usize, n: u8) -> u16
 {
     let mut size: u16 = 0;
     for p in 0..n {
-        size += octet(bytes, at + 8 * p as usize) as u16;
+        size += octet(bytes, at + WEIGHT * p as usize) as u16;
     }
     size
 }
@@ -47,11 +40,11 @@ fn light_rows(bytes: &[u8], n: u8, ts: u8) -> bool
     ensures { λ r. ⌜ r ≡ allBelow ts (lightAt (now (bytes .entry)) n) ⌝ }
 {
     for t in 0..ts {
-        let cause = row_at(n, t) + 10;
+        let cause = row_at(n, t) + LABEL;
         if size_from(bytes, cause, n) > LARGEST_BAG {
             return false;
         }
-        if size_from(bytes, cause + 8 * n as usize, n) > LARGEST_BAG {
+        if size_from(bytes, cause + WEIGHT * n as usize, n) > LARGEST_BAG {
             return false;
         }
     }

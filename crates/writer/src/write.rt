@@ -11,7 +11,12 @@ ghost use Rattle.writer.specs.Refusals.{refusalOf, bufferRefusal};
 ghost use Rattle.writer.specs.RoundTrip.{RoundTrip};
 use super::pen::Pen;
 use super::refusal::WriteRefusal;
+use format::FORM;
+use format::FORM_BITS;
 use format::LONGEST_SHEET;
+use format::PLACES_BITS;
+use format::TRANSITIONS_BITS;
+use format::WEIGHT_BITS;
 use net::bag::Bag;
 use net::bag::weight;
 use net::interface::Net;
@@ -39,7 +44,7 @@ fn write_bag<N: Net>(net: &N, bag: Bag, t: TransitionNo, buffer: &mut [u8], pen:
 {
     let mut ink = pen;
     for p in 0..net.places() {
-        ink = ink.push(buffer, 8, weight(net, bag, t, PlaceNo(p)));
+        ink = ink.push(buffer, WEIGHT_BITS, weight(net, bag, t, PlaceNo(p)));
     }
     ink
 }
@@ -80,9 +85,9 @@ pub fn write<N: Net>(net: &N, buffer: &mut [u8]) -> Result<usize, WriteRefusal>
     if room < LONGEST_SHEET {
         return Err(WriteRefusal::ShortBuffer);
     }
-    let form = Pen::start().push(buffer, 4, 1);
-    let places = form.push(buffer, 7, net.places());
-    let head = places.push(buffer, 8, net.transitions());
+    let form = Pen::start().push(buffer, FORM_BITS, FORM);
+    let places = form.push(buffer, PLACES_BITS, net.places());
+    let head = places.push(buffer, TRANSITIONS_BITS, net.transitions());
     let labelled = write_labels(net, buffer, head);
     let whole = write_rows(net, buffer, labelled);
     Ok(whole.finish(buffer))

@@ -2,12 +2,16 @@
 ghost use mathlib.Core.Path.{_≡_};
 ghost use Prim.Native.Nat.{_*_, _≤_};
 ghost use denote.Ref.{now};
-ghost use Rattle.format.specs.Sheets.{netOf, weightAt};
+ghost use Rattle.format.specs.Sheets.{weightAt};
 ghost use Rattle.format.proofs.Nets.{sheet-lawful};
+ghost use Rattle.reader.specs.Readers.{readNet};
 use super::SheetReader;
 use crate::bits::octet;
 use crate::bits::ten;
-use crate::check::row_at;
+use crate::offsets::LABEL;
+use crate::offsets::WEIGHT;
+use crate::offsets::label_at;
+use crate::offsets::row_at;
 use net::interface::Net;
 use net::numbers::Label;
 use net::numbers::PlaceNo;
@@ -22,13 +26,13 @@ impl<'a> SheetReader<'a> {
         if transition.0 >= self.transitions || place.0 >= self.places {
             return 0;
         }
-        let bag = row_at(self.places, transition.0) + 10 + skip;
-        octet(self.bytes, bag + 8 * place.0 as usize)
+        let bag = row_at(self.places, transition.0) + LABEL + skip;
+        octet(self.bytes, bag + WEIGHT * place.0 as usize)
     }
 }
 
 pub impl<'a> Net for SheetReader<'a> as SheetNet {
-    ghost model = { λ x. netOf (now (x .bytes)) };
+    ghost model = { λ x. readNet x };
 
     ghost lawful = { λ x. sheet-lawful (now (x .bytes)) (x .lawful) };
 
@@ -44,7 +48,7 @@ pub impl<'a> Net for SheetReader<'a> as SheetNet {
         if place.0 >= self.places {
             return None;
         }
-        Some(Label(ten(self.bytes, 19 + 10 * place.0 as usize)))
+        Some(Label(ten(self.bytes, label_at(place.0))))
     }
 
     fn transition_label(&self, transition: TransitionNo) -> Option<Label> {
@@ -59,6 +63,6 @@ pub impl<'a> Net for SheetReader<'a> as SheetNet {
     }
 
     fn effect(&self, transition: TransitionNo, place: PlaceNo) -> u8 {
-        self.weight(8 * self.places as usize, transition, place)
+        self.weight(WEIGHT * self.places as usize, transition, place)
     }
 }
