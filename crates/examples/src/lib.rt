@@ -2,6 +2,8 @@
 #[cfg(test)]
 mod drawings;
 #[cfg(test)]
+mod folding;
+#[cfg(test)]
 mod limits;
 #[cfg(test)]
 mod sheets;

@@ -1,8 +1,8 @@
 -- Sums over the numbers below n.
 use mathlib.Core.Path.{_≡_, refl, sym, ap, _∙_}
 use mathlib.Core.List.{List}
-use mathlib.Core.Logic.{⊎-elim}
-use Prim.Native.Nat.{ℕ, zero, suc, _+_, _≤_, _<_}
+use mathlib.Core.Logic.{⊎-elim, inl, inr}
+use Prim.Native.Nat.{ℕ, zero, suc, _+_, _*_, _≤_, _<_}
 use native.Mathlib.Omega.{arith}
 use native.Mathlib.Numerals.{add-one}
 use lib.ListN.{length, getD, take}
@@ -29,6 +29,47 @@ pub sum-zero : (n : ℕ) (f : ℕ → ℕ) → ((i : ℕ) → i < n → f i ≡ 
 unfolding sumBelow
 sum-zero zero f h = refl
 sum-zero (suc n) f h = omega (arith, sum-zero n f (λ i l. h i (omega arith)), h n (omega arith))
+
+pub sum-add : (n : ℕ) (f g : ℕ → ℕ) → sumBelow n (λ i. f i + g i) ≡ sumBelow n f + sumBelow n g
+unfolding sumBelow
+sum-add zero f g = refl
+sum-add (suc n) f g = omega (arith, sum-add n f g)
+
+pub sum-le : (n : ℕ) (f g : ℕ → ℕ) → ((i : ℕ) → i < n → f i ≤ g i) → sumBelow n f ≤ sumBelow n g
+unfolding sumBelow
+sum-le zero f g h = omega arith
+sum-le (suc n) f g h = omega (arith, sum-le n f g (λ i l. h i (omega arith)), h n (omega arith))
+
+pub sum-lt : (n : ℕ) (f g : ℕ → ℕ) → ((i : ℕ) → i < n → f i ≤ g i) → (j : ℕ) → j < n → f j < g j → sumBelow n f < sumBelow n g
+unfolding sumBelow
+sum-lt zero f g h j l s = absurd (omega arith)
+sum-lt (suc n) f g h j l s =
+    elim (cases-eq j n) [
+      | inl e ↦ omega (arith, sum-le n f g (λ i l. h i (omega arith)), rw e at s)
+      | inr e ↦ omega (arith, sum-lt n f g (λ i l. h i (omega arith)) j (omega arith) s, h n (omega arith))
+    ]
+
+pub sum-most : (n k : ℕ) (f : ℕ → ℕ) → ((i : ℕ) → i < n → f i ≤ k) → sumBelow n f ≤ n * k
+unfolding sumBelow
+sum-most zero k f h = omega arith
+sum-most (suc n) k f h = omega (arith, sum-most n k f (λ i l. h i (omega arith)), h n (omega arith))
+
+-- a sum with one term
+pub sum-one : (n : ℕ) (f : ℕ → ℕ) (j : ℕ) → j < n → ((i : ℕ) → i < n → (i ≡ j → ⊥) → f i ≡ 0) → sumBelow n f ≡ f j
+unfolding sumBelow
+sum-one zero f j l h = absurd (omega arith)
+sum-one (suc n) f j l h =
+    elim (cases-eq j n) [
+      | inl e ↦ omega (arith, sum-zero n f (λ i l. h i (omega arith) (λ s. omega arith)), ap f e)
+      | inr e ↦ omega (arith, sum-one n f j (omega arith) (λ i l s. h i (omega arith) s), h n (omega arith) (λ s. e (sym s)))
+    ]
+
+-- a table's sum, by its rows and by its columns
+pub sum-turned : (n k : ℕ) (f : ℕ → ℕ → ℕ) → sumBelow n (λ i. sumBelow k (f i)) ≡ sumBelow k (λ j. sumBelow n (λ i. f i j))
+unfolding sumBelow
+sum-turned zero k f = sym (sum-zero k (λ _. 0) (λ _ _. refl))
+sum-turned (suc n) k f =
+    ap (λ (x : ℕ). x + sumBelow k (f n)) (sum-turned n k f) ∙ sym (sum-add k (λ j. sumBelow n (λ i. f i j)) (f n))
 
 -- a term is at most the sum
 pub term-le : (n : ℕ) (f : ℕ → ℕ) (i : ℕ) → i < n → f i ≤ sumBelow n f

@@ -1,23 +1,30 @@
 -- What is listed of an input, as bytes. Assumes nothing.
 use mathlib.Core.Path.{_≡_}
 use mathlib.Core.Bool.{cond}
-use mathlib.Core.List.{List, _++_}
+use mathlib.Core.List.{List, [], _∷_, _++_}
 use Prim.Native.Nat.{ℕ, _≤_}
 use lib.Chars.{codes}
 use lib.Dec.{eqb}
 use lib.ListN.{length}
 use Rattle.std.specs.Written.{decimal}
 use Rattle.net.specs.Model.{Model}
+use Rattle.bisimulation.specs.Rounds.{rest}
+use Rattle.bisimulation.specs.Folding.{folded}
 use Rattle.format.specs.Sheets.{netOf}
 use Rattle.report.specs.Frames.{sheetIn, afterFrame, leftRefusal, rightRefusal}
 
--- the line of p places and t transitions
-abbrev pub countsLine : ℕ → ℕ → List ℕ
-countsLine p t = decimal p ++ (codes " " ++ (decimal t ++ codes "\n"))
+-- the line of some numbers: in decimal, with a blank between two
+abbrev pub numbersLine : List ℕ → List ℕ
+numbersLine [] = []
+numbersLine (n ∷ []) = decimal n ++ codes "\n"
+numbersLine (n ∷ k ∷ ns) = (decimal n ++ codes " ") ++ numbersLine (k ∷ ns)
 
--- the line of a net: its numbers of places and of transitions
+-- what is listed of a net: its numbers of places and of transitions, those of the folded net, and how many rounds parted something
+abbrev pub netNumbers : Model → List ℕ
+netNumbers m = m .places ∷ m .transitions ∷ folded m .places ∷ folded m .transitions ∷ rest m ∷ []
+
 abbrev pub netLine : Model → List ℕ
-netLine m = countsLine (m .places) (m .transitions)
+netLine m = numbersLine (netNumbers m)
 
 -- the line of a side that is refused
 abbrev pub refusedLine : ℕ → List ℕ

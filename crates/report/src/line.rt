@@ -1,23 +1,36 @@
 // The line of a side.
+ghost use mathlib.Core.List.{[], _∷_, _++_};
 ghost use Prim.Native.Nat.{_+_, _≤_};
-ghost use Rattle.report.specs.Listing.{countsLine, refusedLine};
-ghost use Rattle.report.specs.Sides.{numberOf, lineOf};
+ghost use Rattle.std.specs.Written.{decimal};
+ghost use Rattle.report.specs.Listing.{numbersLine, refusedLine};
+ghost use Rattle.report.specs.Sides.{numberOf, numbersOf, lineOf};
 ghost use Rattle.report.specs.Texts.{Grows};
 use super::side::Counts;
 use super::side::Side;
 use super::side::SideRefusal;
 use super::text::Text;
 
-// Writes the counts of a net, in a line of at most 24 bytes.
+// Writes a number and the byte that ends it.
+fn push_column(text: &mut Text, n: u8, end: u8)
+    requires { ⌜ now text .used + 4 ≤ 64 ⌝ }
+    ensures grows { λ _. ⌜ Grows (now (text .entry)) (decimal n ++ end ∷ []) (now (text .exit)) ⌝ }
+    ensures short { λ _. ⌜ now (text .exit) .used ≤ now (text .entry) .used + 4 ⌝ }
+{
+    text.push_number(n as u16);
+    text.push(end);
+}
+
+// Writes what is counted of a net, in a line of at most 24 bytes.
 fn push_counts(text: &mut Text, counts: Counts)
     requires { ⌜ now text .used + 24 ≤ 64 ⌝ }
-    ensures grows { λ _. ⌜ Grows (now (text .entry)) (countsLine (counts .places) (counts .transitions)) (now (text .exit)) ⌝ }
+    ensures grows { λ _. ⌜ Grows (now (text .entry)) (numbersLine (numbersOf counts)) (now (text .exit)) ⌝ }
     ensures short { λ _. ⌜ now (text .exit) .used ≤ now (text .entry) .used + 24 ⌝ }
 {
-    text.push_number(counts.places as u16);
-    text.push(b' ');
-    text.push_number(counts.transitions as u16);
-    text.push(b'\n');
+    push_column(text, counts.places, b' ');
+    push_column(text, counts.transitions, b' ');
+    push_column(text, counts.folded_places, b' ');
+    push_column(text, counts.folded_transitions, b' ');
+    push_column(text, counts.rounds, b'\n');
 }
 
 // Writes what refuses a side, in a line of at most 24 bytes.

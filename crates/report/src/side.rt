@@ -2,8 +2,11 @@
 ghost use mathlib.Core.Path.{_≡_};
 ghost use Rattle.format.specs.Sheets.{sheetRefusal};
 ghost use Rattle.report.specs.Frames.{sheetIn, leftRefusal};
-ghost use Rattle.report.specs.Sides.{numberOf, Tells};
+ghost use Rattle.report.specs.Listing.{netNumbers};
+ghost use Rattle.report.specs.Sides.{numberOf, numbersOf, Tells};
 use super::frame::split_frame;
+use fold::fold::fold;
+use fold::grouping::Grouping;
 use net::interface::Net;
 use reader::refusal::SheetRefusal;
 use reader::sheet::SheetReader;
@@ -35,10 +38,28 @@ impl SideRefusal {
 pub(crate) struct Counts {
     pub(crate) places: u8,
     pub(crate) transitions: u8,
+    pub(crate) folded_places: u8,
+    pub(crate) folded_transitions: u8,
+    pub(crate) rounds: u8,
 }
 
 // What is known of a side.
 pub(crate) type Side = Result<Counts, SideRefusal>;
+
+// Counts what is listed of a net.
+fn count<N: Net>(net: &N) -> Counts
+    ensures { λ r. ⌜ numbersOf r ≡ netNumbers (model (now (net .entry))) ⌝ }
+{
+    let mut groups = Grouping::new();
+    let (folded_places, folded_transitions, rounds) = fold(net, &mut groups);
+    Counts {
+        places: net.places(),
+        transitions: net.transitions(),
+        folded_places,
+        folded_transitions,
+        rounds,
+    }
+}
 
 // The side of a sheet.
 pub(crate) fn read_sheet(sheet: &[u8]) -> Side
@@ -46,10 +67,7 @@ pub(crate) fn read_sheet(sheet: &[u8]) -> Side
 {
     let mut reader = SheetReader::new();
     match reader.open(sheet) {
-        Ok(()) => Ok(Counts {
-            places: reader.places(),
-            transitions: reader.transitions(),
-        }),
+        Ok(()) => Ok(count(&reader)),
         Err(refusal) => Err(SideRefusal::Sheet(refusal)),
     }
 }

@@ -23,5 +23,8 @@ fn no_input() -> Result<(), Fail> {
 #[test]
 fn left_sheet_refused() -> Result<(), Fail> {
     let input = [0, 1, 16, 0, 3, 16, 0, 0, 9];
-    check_eq(report(&input).as_bytes(), b"refused 1\n0 0\n".as_slice())
+    check_eq(
+        report(&input).as_bytes(),
+        b"refused 1\n0 0 0 0 0\n".as_slice(),
+    )
 }

@@ -1,0 +1,17 @@
+pub mod Bags
+pub mod Views
+pub mod Equivalences
+pub mod Leaders
+pub mod Ranges
+pub mod Rest
+pub mod Splits
+pub mod Matchings
+pub mod Agreement
+pub mod Exchange
+pub mod Pairings
+pub mod Largest
+pub mod Coarsest
+pub mod Folded
+pub mod Alike
+pub mod FoldSame
+pub mod Correspond

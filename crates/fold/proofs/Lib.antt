@@ -1,0 +1,11 @@
+mod AtRound
+mod Dividing
+mod Formed
+mod GroupSums
+mod Growth
+mod Layered
+mod Listed
+mod Loops
+mod Tallied
+mod Threes
+mod OwnGroups
