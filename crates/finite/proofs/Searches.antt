@@ -32,9 +32,6 @@ first-cases (suc n) f = step (first-cases n f)
         (inl (record { lands = omega (arith, r .lands); passes = r .passes; least = r .least }))
     step (inr r) = subst Goal (sym (cond-false (ltb (firstBelow n f) n) _ _ (le-ltb _ _ (omega (arith, r .0))))) (last (r .0) (r .1) (f n) refl)
 
-pub first-most : (n : ℕ) (f : ℕ → Bool) → firstBelow n f ≤ n
-first-most n f = elim (first-cases n f) [ inl e ↦ omega (arith, e .lands) | inr e ↦ omega (arith, e .0) ]
-
 pub first-finds : (n : ℕ) (f : ℕ → Bool) (i : ℕ) → i < n → f i ≡ true → Found n f (firstBelow n f)
 first-finds n f i l h = ⊎-elim (λ r. r) (λ r. absurd (both-ways (f i) (r .1 i l) h)) (first-cases n f)
 

@@ -1,1 +1,1 @@
-// Sums and tests over the numbers below a bound: definitions and lemmas only, in specs/ and proofs/.
+// Sums, tests, counts and searches over the numbers below a bound: definitions and lemmas only, in specs/ and proofs/.
