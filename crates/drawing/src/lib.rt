@@ -1,4 +1,6 @@
 // Nets that are drawn: a drawing begins empty and is edited, or is a copy of another net.
+#![tactic(auto)]
+
 ghost use Rattle.std.specs.Prelude.{◌≤◌};
 ghost use Rattle.net.specs.Model.{Labelled, SmallBags, Outside};
 ghost use Rattle.drawing.specs.Arrays.{model_of, Sized, Wide};

@@ -1,4 +1,6 @@
 // Worked examples, as tests of drawings, sheets and their refusals.
+#![tactic(auto)]
+
 #[cfg(test)]
 mod drawings;
 #[cfg(test)]

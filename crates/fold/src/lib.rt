@@ -1,4 +1,6 @@
 // Folding a net: its places and transitions in groups, refined round by round until no round parts anything.
+#![tactic(auto)]
+
 mod counts;
 mod exchange;
 pub mod fold;

@@ -1,4 +1,5 @@
 // The sheet of a net, as bit fields in bytes: mostly definitions and lemmas, in specs/ and proofs/.
+#![tactic(auto)]
 
 /// The form of a sheet.
 pub const FORM: u8 = 1;

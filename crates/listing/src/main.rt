@@ -1,4 +1,6 @@
 // Lists the two framed sheets of standard input.
+#![tactic(auto)]
+
 ghost use Rattle.std.specs.Prelude.{◌≤◌, length, IfOk};
 
 use report::report::{INPUT_LIMIT, report};

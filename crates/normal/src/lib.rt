@@ -1,4 +1,6 @@
 // The normal form of a net: its end sheet in bytes, and the seats that go with it.
+#![tactic(auto)]
+
 mod count;
 mod groups;
 mod ordered;

@@ -1,4 +1,6 @@
 // A sheet answers as a net, from the caller's bytes.
+#![tactic(auto)]
+
 mod bits;
 mod check;
 mod offsets;

@@ -1,4 +1,6 @@
 // The report on two framed sheets, as bytes.
+#![tactic(auto)]
+
 mod frame;
 mod line;
 pub mod report;

@@ -1,4 +1,6 @@
 // The search of the least arrangement of a net, row by row.
+#![tactic(auto)]
+
 mod cells;
 mod descent;
 mod first;

@@ -1,4 +1,6 @@
 // The table on which two nets are played side by side: a lead on one side hands out a due, which an answer on the other side or a withdrawal spends.
+#![tactic(auto)]
+
 pub mod due;
 mod half;
 mod order;
