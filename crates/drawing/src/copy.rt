@@ -12,7 +12,7 @@ use net::numbers::{PlaceNo, TransitionNo};
 
 fn place_labels<N: Net>(net: &N) -> [u16; 64]
     ensures long { length result ≡ 64 }
-    ensures reads { (q : ℕ) → slice_index result q ≡ (model net.now).place_label q }
+    ensures reads { (q : ℕ) → slice_index result q ≡ (N.model net.now).place_label q }
 {
     let mut labels = [0; 64];
     for p in 0..net.places() {
@@ -23,7 +23,7 @@ fn place_labels<N: Net>(net: &N) -> [u16; 64]
 
 fn transition_labels<N: Net>(net: &N) -> [u16; 128]
     ensures long { length result ≡ 128 }
-    ensures reads { (q : ℕ) → slice_index result q ≡ (model net.now).transition_label q }
+    ensures reads { (q : ℕ) → slice_index result q ≡ (N.model net.now).transition_label q }
 {
     let mut labels = [0; 128];
     for t in 0..net.transitions() {
@@ -35,7 +35,7 @@ fn transition_labels<N: Net>(net: &N) -> [u16; 128]
 // The weights of one bag.
 fn row_of<N: Net>(net: &N, bag: Bag, transition: TransitionNo) -> [u8; 64]
     ensures long { length result ≡ 64 }
-    ensures reads { (q : ℕ) → slice_index result q ≡ weights bag (model net.now) transition.0 q }
+    ensures reads { (q : ℕ) → slice_index result q ≡ weights bag (N.model net.now) transition.0 q }
 {
     let mut row = [0; 64];
     for p in 0..net.places() {
@@ -48,7 +48,7 @@ fn row_of<N: Net>(net: &N, bag: Bag, transition: TransitionNo) -> [u8; 64]
 fn rows_of<N: Net>(net: &N, bag: Bag) -> [[u8; 64]; 128]
     ensures long { length result ≡ 128 }
     ensures wide { (t : ℕ) → t < 128 → length (slice_index_or result t []) ≡ 64 }
-    ensures reads { (t q : ℕ) → entry result t q ≡ weights bag (model net.now) t q }
+    ensures reads { (t q : ℕ) → entry result t q ≡ weights bag (N.model net.now) t q }
 {
     let mut rows = [[0; 64]; 128];
     for t in 0..net.transitions() {
@@ -60,7 +60,7 @@ fn rows_of<N: Net>(net: &N, bag: Bag) -> [[u8; 64]; 128]
 impl Drawing {
     /// A drawing of the net that answers.
     pub fn copy_of<N: Net>(net: &N) -> Drawing
-        ensures { drawn result ≡ model net.now }
+        ensures { drawn result ≡ N.model net.now }
     {
         Drawing {
             arrays: Arrays {

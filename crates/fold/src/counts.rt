@@ -12,7 +12,7 @@ use net::numbers::{PlaceNo, TransitionNo};
 // How many tokens of the bag lie in each group, at the group's leader.
 fn tally<N: Net>(net: &N, groups: &Grouping, bag: Bag, t: TransitionNo) -> [u16; 64]
     ensures long { length result ≡ 64 }
-    ensures counts { (g : ℕ) → slice_index result (slice_index_or groups.now.place_leaders g 0) ≡ group_count (model net.now).places (groups_of groups.now).same_place (weights bag (model net.now) t.0) g }
+    ensures counts { (g : ℕ) → slice_index result (slice_index_or groups.now.place_leaders g 0) ≡ group_count (N.model net.now).places (groups_of groups.now).same_place (weights bag (N.model net.now) t.0) g }
 {
     let mut counts = [0; 64];
     for p in 0..net.places() {
@@ -30,7 +30,7 @@ pub fn same_counts<N: Net>(
     t: TransitionNo,
     u: TransitionNo,
 ) -> bool
-    ensures { result ≡ same_counts (model net.now) (groups_of groups.now) (weights bag (model net.now) t.0) (weights bag (model net.now) u.0) }
+    ensures { result ≡ same_counts (N.model net.now) (groups_of groups.now) (weights bag (N.model net.now) t.0) (weights bag (N.model net.now) u.0) }
 {
     let left = tally(net, groups, bag, t);
     let right = tally(net, groups, bag, u);

@@ -24,7 +24,7 @@ fn unit(held: PlaceNo, place: PlaceNo) -> u16
 impl Exchange {
     // Whether u's cause is t's with one `from` replaced by one `to`.
     fn replaces<N: Net>(self, net: &N, t: TransitionNo, u: TransitionNo) -> bool
-        ensures { result ≡ replaces (model net.now) self.from.0 self.to.0 t.0 u.0 }
+        ensures { result ≡ replaces (N.model net.now) self.from.0 self.to.0 t.0 u.0 }
     {
         for x in 0..net.places() {
             let place = PlaceNo(x);
@@ -40,7 +40,7 @@ impl Exchange {
     /// Whether each transition whose cause has `from` is together with one whose cause has one `to` in place of one `from`.
     /// The first transition with no such partner ends the search.
     pub fn holds<N: Net>(self, net: &N, groups: &Grouping) -> bool
-        ensures { result ≡ exchanges (model net.now) (groups_of groups.now) self.from.0 self.to.0 }
+        ensures { result ≡ exchanges (N.model net.now) (groups_of groups.now) self.from.0 self.to.0 }
     {
         'transitions: for t in 0..net.transitions() {
             if net.cause(TransitionNo(t), self.from) == 0 {

@@ -11,10 +11,10 @@ use net::interface::Net;
 /// Folds a net: the grouping becomes that of the net's places and transitions at rest.
 /// Gives the numbers of groups of places and of transitions, and how many rounds parted something.
 pub fn fold<N: Net>(net: &N, groups: &mut Grouping) -> (u8, u8, u8)
-    ensures places { result.0 ≡ (folded (model net.now)).places }
-    ensures transitions { result.1 ≡ (folded (model net.now)).transitions }
-    ensures rounds { result.2 ≡ rest (model net.now) }
-    ensures groups { Divides (model net.now).places (model net.now).transitions (final (model net.now)) groups.new }
+    ensures places { result.0 ≡ (folded (N.model net.now)).places }
+    ensures transitions { result.1 ≡ (folded (N.model net.now)).transitions }
+    ensures rounds { result.2 ≡ rest (N.model net.now) }
+    ensures groups { Divides (N.model net.now).places (N.model net.now).transitions (final (N.model net.now)) groups.new }
 {
     *groups = label_round(net);
     let mut rounds = 0;

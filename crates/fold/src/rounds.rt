@@ -39,7 +39,7 @@ fn grouping_by<P: Likeness, T: Likeness>(
 
 /// The groups by labels.
 pub fn label_round<N: Net>(net: &N) -> Grouping
-    ensures { Divides (model net.now).places (model net.now).transitions (label_groups (model net.now)) result }
+    ensures { Divides (N.model net.now).places (N.model net.now).transitions (label_groups (N.model net.now)) result }
 {
     let by_place = PlacesByLabel { net };
     let by_transition = TransitionsByLabel { net };
@@ -48,7 +48,7 @@ pub fn label_round<N: Net>(net: &N) -> Grouping
 
 /// The groups of the round after a grouping.
 pub fn next_round<N: Net>(net: &N, old: &Grouping) -> Grouping
-    ensures { Divides (model net.now).places (model net.now).transitions (refine (model net.now) (groups_of old.now)) result }
+    ensures { Divides (N.model net.now).places (N.model net.now).transitions (refine (N.model net.now) (groups_of old.now)) result }
 {
     let by_place = PlacesByExchange { net, old };
     let by_transition = TransitionsByCounts { net, old };

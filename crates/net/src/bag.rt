@@ -14,7 +14,7 @@ pub enum Bag {
 
 /// The weight of a transition's bag at a place.
 pub fn weight<N: Net>(net: &N, bag: Bag, transition: TransitionNo, place: PlaceNo) -> u8
-    ensures { result ≡ weights bag (model net.now) transition.0 place.0 }
+    ensures { result ≡ weights bag (N.model net.now) transition.0 place.0 }
 {
     match bag {
         Bag::Cause => net.cause(transition, place),

@@ -39,7 +39,7 @@ pub trait Net {
 
 /// The label of a place as a number, 0 past the last place.
 pub fn place_label_number<N: Net>(net: &N, place: PlaceNo) -> u16
-    ensures { (result ≡ (model net.now).place_label place.0) × (result ≤ 1023) }
+    ensures { (result ≡ (N.model net.now).place_label place.0) × (result ≤ 1023) }
 {
     match net.place_label(place) {
         Some(label) => label.0,
@@ -49,7 +49,7 @@ pub fn place_label_number<N: Net>(net: &N, place: PlaceNo) -> u16
 
 /// The label of a transition as a number, 0 past the last transition.
 pub fn transition_label_number<N: Net>(net: &N, transition: TransitionNo) -> u16
-    ensures { (result ≡ (model net.now).transition_label transition.0) × (result ≤ 1023) }
+    ensures { (result ≡ (N.model net.now).transition_label transition.0) × (result ≤ 1023) }
 {
     match net.transition_label(transition) {
         Some(label) => label.0,

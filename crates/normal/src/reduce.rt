@@ -31,8 +31,8 @@ use writer::write::write;
 
 // The folded net of a net with its own groups at rest, as a drawing.
 fn draw_folded<N: Net>(net: &N, groups: &Grouping) -> Drawing
-    requires { Divides (model net.now).places (model net.now).transitions (final (model net.now)) groups.now }
-    ensures { drawn result ≡ folded (model net.now) }
+    requires { Divides (N.model net.now).places (N.model net.now).transitions (final (N.model net.now)) groups.now }
+    ensures { drawn result ≡ folded (N.model net.now) }
 {
     let folded = Folded::over(net, groups);
     Drawing::copy_of(&folded)
@@ -60,9 +60,9 @@ fn seats_along<N: Net>(
     ranking: &Ranking,
 ) -> Seats
     requires few { (places ≤ 64) × (transitions ≤ 128) }
-    requires divides { Divides (model net.now).places (model net.now).transitions (final (model net.now)) groups.now }
-    ensures places { SeatsAlong (model net.now).places groups.now.place_leaders places ranking.now.places result.places }
-    ensures transitions { SeatsAlong (model net.now).transitions groups.now.transition_leaders transitions ranking.now.transitions result.transitions }
+    requires divides { Divides (N.model net.now).places (N.model net.now).transitions (final (N.model net.now)) groups.now }
+    ensures places { SeatsAlong (N.model net.now).places groups.now.place_leaders places ranking.now.places result.places }
+    ensures transitions { SeatsAlong (N.model net.now).transitions groups.now.transition_leaders transitions ranking.now.transitions result.transitions }
 {
     let mut place_seats = [0; 64];
     seat_members(
@@ -92,9 +92,9 @@ pub fn reduce_seated<N: Net>(
     buffer: &mut [u8],
     seats: &mut Seats,
 ) -> Result<Reduction, ReduceRefusal>
-    ensures says { result ≡ reduce_says (model net.now) buffer.old }
-    ensures after { buffer.new ≡ reduced_buffer (model net.now) buffer.old }
-    ensures seats { MatchResult result (λ _. Seating (seated_by (model net.now) seats.new)) (λ _. seats.new ≡ seats.old) }
+    ensures says { result ≡ reduce_says (N.model net.now) buffer.old }
+    ensures after { buffer.new ≡ reduced_buffer (N.model net.now) buffer.old }
+    ensures seats { MatchResult result (λ _. Seating (seated_by (N.model net.now) seats.new)) (λ _. seats.new ≡ seats.old) }
 {
     if buffer.len() < LONGEST_SHEET {
         return Err(ReduceRefusal::ShortBuffer);
@@ -120,9 +120,9 @@ pub fn reduce_seated<N: Net>(
 /// something and the number of arrangements. The bytes past the end sheet keep what they held; a refused reduction leaves the
 /// buffer as before. The end sheet is a lawful sheet, of a net that is alike to this one, and its own end sheet.
 pub fn reduce<N: Net>(net: &N, buffer: &mut [u8]) -> Result<Reduction, ReduceRefusal>
-    ensures says { result ≡ reduce_says (model net.now) buffer.old }
-    ensures after { buffer.new ≡ reduced_buffer (model net.now) buffer.old }
-    ensures normal { NormalForm (model net.now) (end_sheet (model net.now)) }
+    ensures says { result ≡ reduce_says (N.model net.now) buffer.old }
+    ensures after { buffer.new ≡ reduced_buffer (N.model net.now) buffer.old }
+    ensures normal { NormalForm (N.model net.now) (end_sheet (N.model net.now)) }
 {
     let mut seats = Seats::new();
     reduce_seated(net, buffer, &mut seats)

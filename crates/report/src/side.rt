@@ -48,7 +48,7 @@ pub(crate) type Side = Result<Counts, SideRefusal>;
 
 // Counts what is listed of a net.
 fn count<N: Net>(net: &N) -> Counts
-    ensures { numbers_of result ≡ net_numbers (model net.now) }
+    ensures { numbers_of result ≡ net_numbers (N.model net.now) }
 {
     let mut groups = Grouping::new();
     let (folded_places, folded_transitions, rounds) = fold(net, &mut groups);

@@ -15,8 +15,8 @@ use net::numbers::{PlaceNo, TransitionNo};
 
 // Writes the label of each place.
 fn write_labels<N: Net>(net: &N, buffer: &mut [u8], pen: Pen) -> Pen
-    requires room { bits_at pen + (model net.now).places * 10 ≤ 8 * length buffer.old }
-    ensures { Writes (labels_of (model net.now)) buffer.old pen buffer.new result }
+    requires room { bits_at pen + (N.model net.now).places * 10 ≤ 8 * length buffer.old }
+    ensures { Writes (labels_of (N.model net.now)) buffer.old pen buffer.new result }
 {
     let mut ink = pen;
     for p in 0..net.places() {
@@ -27,8 +27,8 @@ fn write_labels<N: Net>(net: &N, buffer: &mut [u8], pen: Pen) -> Pen
 
 // Writes one bag of a transition.
 fn write_bag<N: Net>(net: &N, bag: Bag, t: TransitionNo, buffer: &mut [u8], pen: Pen) -> Pen
-    requires room { bits_at pen + (model net.now).places * 8 ≤ 8 * length buffer.old }
-    ensures { Writes (weights_of (weights bag (model net.now) t.0) (model net.now).places) buffer.old pen buffer.new result }
+    requires room { bits_at pen + (N.model net.now).places * 8 ≤ 8 * length buffer.old }
+    ensures { Writes (weights_of (weights bag (N.model net.now) t.0) (N.model net.now).places) buffer.old pen buffer.new result }
 {
     let mut ink = pen;
     for p in 0..net.places() {
@@ -39,8 +39,8 @@ fn write_bag<N: Net>(net: &N, bag: Bag, t: TransitionNo, buffer: &mut [u8], pen:
 
 // Writes a transition: its label, its cause and its effect.
 fn write_row<N: Net>(net: &N, t: TransitionNo, buffer: &mut [u8], pen: Pen) -> Pen
-    requires room { bits_at pen + (10 + 16 * (model net.now).places) ≤ 8 * length buffer.old }
-    ensures { Writes (row_of (model net.now) t.0) buffer.old pen buffer.new result }
+    requires room { bits_at pen + (10 + 16 * (N.model net.now).places) ≤ 8 * length buffer.old }
+    ensures { Writes (row_of (N.model net.now) t.0) buffer.old pen buffer.new result }
 {
     let labelled = pen.push_label(buffer, transition_label_number(net, t));
     let caused = write_bag(net, Bag::Cause, t, buffer, labelled);
@@ -49,8 +49,8 @@ fn write_row<N: Net>(net: &N, t: TransitionNo, buffer: &mut [u8], pen: Pen) -> P
 
 // Writes all transitions.
 fn write_rows<N: Net>(net: &N, buffer: &mut [u8], pen: Pen) -> Pen
-    requires room { bits_at pen + (model net.now).transitions * (10 + 16 * (model net.now).places) ≤ 8 * length buffer.old }
-    ensures { Writes (rows_of (model net.now)) buffer.old pen buffer.new result }
+    requires room { bits_at pen + (N.model net.now).transitions * (10 + 16 * (N.model net.now).places) ≤ 8 * length buffer.old }
+    ensures { Writes (rows_of (N.model net.now)) buffer.old pen buffer.new result }
 {
     let mut ink = pen;
     for t in 0..net.transitions() {
@@ -64,10 +64,10 @@ fn write_rows<N: Net>(net: &N, buffer: &mut [u8], pen: Pen) -> Pen
 pub fn write<N: Net>(net: &N, buffer: &mut [u8]) -> Result<usize, WriteRefusal>
     ensures refusal { refusal_of result ≡ buffer_refusal buffer.old }
     ensures after { MatchResult result
-        (λ n. (n ≡ length (sheet_of (model net.now))) × (buffer.new ≡ sheet_of (model net.now) ++ drop n buffer.old))
+        (λ n. (n ≡ length (sheet_of (N.model net.now))) × (buffer.new ≡ sheet_of (N.model net.now) ++ drop n buffer.old))
         (λ _. buffer.new ≡ buffer.old) }
     ensures short { IfOk result (λ n. n ≤ 16627) }
-    ensures round_trip { IfOk result (λ n. RoundTrip (model net.now) (take n buffer.new)) }
+    ensures round_trip { IfOk result (λ n. RoundTrip (N.model net.now) (take n buffer.new)) }
 {
     let room = buffer.len();
     if room < LONGEST_SHEET {

@@ -12,14 +12,14 @@ use net::numbers::{Label, PlaceNo, TransitionNo};
 impl<'n, 'g, N: Net> Folded<'n, 'g, N> {
     // Whether the grouping divides as many places and as many transitions as the net below has.
     fn fits(&self) -> bool
-        ensures { result ≡ fits (model self.now.net.now) self.now.groups.now }
+        ensures { result ≡ fits (N.model self.now.net.now) self.now.groups.now }
     {
         self.net.places() == self.groups.places && self.net.transitions() == self.groups.transitions
     }
 
     // The weight of either bag: that of the group's lowest transition, over the places of the group.
     fn weight(&self, bag: Bag, transition: TransitionNo, place: PlaceNo) -> u8
-        ensures { result ≡ weights bag (folded_by (model self.now.net.now) self.now.groups.now) transition.0 place.0 }
+        ensures { result ≡ weights bag (folded_by (N.model self.now.net.now) self.now.groups.now) transition.0 place.0 }
     {
         if !self.fits() {
             return weight(self.net, bag, transition, place);

@@ -15,7 +15,7 @@ impl<'n, 'g, N: Net> Folded<'n, 'g, N> {
     /// The net folded by the grouping. Folded by its own groups at rest, it is alike to the net below.
     pub fn over(net: &'n N, groups: &'g Grouping) -> Folded<'n, 'g, N>
         ensures below { (result.net.now ≡ net.now) × (result.groups.now ≡ groups.now) }
-        ensures alike { Divides (model net.now).places (model net.now).transitions (final (model net.now)) groups.now → Alike (folded_by (model net.now) groups.now) (model net.now) }
+        ensures alike { Divides (N.model net.now).places (N.model net.now).transitions (final (N.model net.now)) groups.now → Alike (folded_by (N.model net.now) groups.now) (N.model net.now) }
     {
         let mut place_leaders = [0; 64];
         let mut transition_leaders = [0; 128];

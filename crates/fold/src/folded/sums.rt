@@ -18,7 +18,7 @@ pub(crate) fn group_weight<N: Net>(
     member: PlaceNo,
 ) -> u8
     requires { member.0 < 64 }
-    ensures { result ≡ group_count (model net.now).places (groups_of groups.now).same_place (weights bag (model net.now) transition.0) member.0 }
+    ensures { result ≡ group_count (N.model net.now).places (groups_of groups.now).same_place (weights bag (N.model net.now) transition.0) member.0 }
 {
     let mut sum = 0;
     for p in 0..net.places() {
