@@ -10,8 +10,8 @@ use Rattle.drawing.specs.Drawn.{drawn_lawful}
 use Rattle.drawing.proofs.Writes.{set_read}
 use Rattle.drawing.proofs.Drawing.add_transition.Goals as goal
 
-pub invariant-of-self : goal.invariant-of-self
-invariant-of-self c =
+pub invariant_of-self : goal.invariant_of-self
+invariant_of-self c =
     let d = c.args.self.now in
     let labels = d.arrays.transition_labels in
     let n = d.arrays.transitions in

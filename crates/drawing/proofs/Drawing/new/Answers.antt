@@ -24,8 +24,8 @@ zeros_empty : model_of zeros ≡ empty
 zeros_empty = same_answers _ _ refl refl (fun_ext (zero_list 64)) (fun_ext (zero_list 128))
     (fun_ext (λ t. fun_ext (zero_table 128 64 t))) (fun_ext (λ t. fun_ext (zero_table 128 64 t)))
 
-pub invariant-of-result : goal.invariant-of-result
-invariant-of-result c = held zeros empty (refl, refl, refl, refl) (zero_wide 128 64, zero_wide 128 64) zeros_empty lawful_empty
+pub invariant_of-result : goal.invariant_of-result
+invariant_of-result c = held zeros empty (refl, refl, refl, refl) (zero_wide 128 64, zero_wide 128 64) zeros_empty lawful_empty
 
 pub returns : goal.returns
 returns c = zeros_empty

@@ -8,7 +8,7 @@ loop-p-init g c = numbers_none 64 _
 pub loop-p-preserved : goal.loop-p-preserved
 loop-p-preserved g c = filled_more _ _ c.loop-p.invariant _
     (omega (arith, c.places-p-end.ensures, (g.N.Net.lawful c.args.net.now).few_places))
-    c.place-label-number.ensures.0
+    c.place_label_number.ensures.0
 
 pub returns : goal.returns
 returns g c = record {

@@ -9,7 +9,7 @@ loop-t-init g c = rows_none 128 64 _
 pub loop-t-preserved : goal.loop-t-preserved
 loop-t-preserved g c = filled_more _ _ c.loop-t.invariant _
     (omega (arith, c.transitions-t-end.ensures, (g.N.Net.lawful c.args.net.now).few_transitions))
-    (λ _. c.row-of.ensures.long, c.row-of.ensures.reads)
+    (λ _. c.row_of.ensures.long, c.row_of.ensures.reads)
 
 pub returns : goal.returns
 returns g c =

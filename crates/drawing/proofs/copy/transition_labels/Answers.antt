@@ -8,7 +8,7 @@ loop-t-init g c = numbers_none 128 _
 pub loop-t-preserved : goal.loop-t-preserved
 loop-t-preserved g c = filled_more _ _ c.loop-t.invariant _
     (omega (arith, c.transitions-t-end.ensures, (g.N.Net.lawful c.args.net.now).few_transitions))
-    c.transition-label-number.ensures.0
+    c.transition_label_number.ensures.0
 
 pub returns : goal.returns
 returns g c = record {

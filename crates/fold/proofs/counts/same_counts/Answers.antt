@@ -14,14 +14,14 @@ loop-g-init g c = all_none _
 pub returns-then-left-leader : goal.returns-then-left-leader
 unfolding same_counts
 returns-then-left-leader g c =
-    let left = at c.tally-left.result _ _ c.place-leader-leader.ensures.0 ∙ c.tally-left.ensures.counts c.loop-g.g in
-    let right = at c.tally-right.result _ _ c.place-leader-leader.ensures.0 ∙ c.tally-right.ensures.counts c.loop-g.g in
+    let left = at c.tally-left.result _ _ c.place_leader-leader.ensures.0 ∙ c.tally-left.ensures.counts c.loop-g.g in
+    let right = at c.tally-right.result _ _ c.place_leader-leader.ensures.0 ∙ c.tally-right.ensures.counts c.loop-g.g in
     sym (all_fails _ _ c.loop-g.g (omega (arith, c.places-g-end.ensures)) (ne_eqb _ _ (λ e. c.if-left-leader.true (left ∙ e ∙ sym right))))
 
 pub loop-g-preserved : goal.loop-g-preserved
 loop-g-preserved g c =
-    let left = at c.tally-left.result _ _ c.place-leader-leader.ensures.0 in
-    let right = at c.tally-right.result _ _ c.place-leader-leader.ensures.0 in
+    let left = at c.tally-left.result _ _ c.place_leader-leader.ensures.0 in
+    let right = at c.tally-right.result _ _ c.place_leader-leader.ensures.0 in
     all_more c.loop-g.g _ c.loop-g.invariant (eq-eqb _ _ (sym left ∙ c.if-left-leader.false ∙ right))
 
 pub returns : goal.returns

@@ -10,8 +10,8 @@ loop-p-init g c = formed_none _ _ _
 pub loop-p-preserved : goal.loop-p-preserved
 loop-p-preserved g c =
     let like = g.L.Likeness.like c.args.by.now in
-    let is = c.lowest-alike-leader.ensures ∙ ap (λ (n : ℕ). lowest like n c.loop-p.p) (sym c.requires.bound) in
-    let Next : ℕ → Type 0 = λ count. Formed like c.args.n c.args.leaders.now (c.loop-p.p + 1) count (set c.loop-p.leaders c.loop-p.p c.lowest-alike-leader.result) in
+    let is = c.lowest_alike-leader.ensures ∙ ap (λ (n : ℕ). lowest like n c.loop-p.p) (sym c.requires.bound) in
+    let Next : ℕ → Type 0 = λ count. Formed like c.args.n c.args.leaders.now (c.loop-p.p + 1) count (set c.loop-p.leaders c.loop-p.p c.lowest_alike-leader.result) in
     elim c.if-leader-p.branch [
       | then-leader-p w ↦ subst Next (sym w.count-is)
           (formed_new like c.args.n _ c.loop-p.p c.loop-p.count _ c.loop-p.leaders c.loop-p.invariant (omega (arith, c.requires.room)) is w.if-leader-p.true)

@@ -17,7 +17,7 @@ loop-p-preserved g c =
     let n = c.args.n in
     let p = c.loop-p.p in
     let room = length c.args.listed.now in
-    let is = c.form-groups.ensures.lead p (omega arith) in
+    let is = c.form_groups.ensures.lead p (omega arith) in
     elim c.if-leaders-p.branch [
       | then-leaders-p w ↦ listed_like like n room (p + 1) w.count-is w.listed-is
           (listed_new like n room p c.loop-p.count c.loop-p.listed c.loop-p.invariant

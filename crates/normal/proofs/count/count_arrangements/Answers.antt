@@ -7,8 +7,8 @@ use Rattle.normal.proofs.count.count_arrangements.Goals as goal
 pub loop-p-init : goal.loop-p-init
 loop-p-init c = (omega arith, sym (product_none _))
 
-pub returns-then-ways-gt-MOST-ARRANGEMENTS : goal.returns-then-ways-gt-MOST-ARRANGEMENTS
-returns-then-ways-gt-MOST-ARRANGEMENTS c =
+pub returns-then-ways-gt-MOST_ARRANGEMENTS : goal.returns-then-ways-gt-MOST_ARRANGEMENTS
+returns-then-ways-gt-MOST_ARRANGEMENTS c =
     let f : ℕ → ℕ = choices c.args.labels.now in
     let p : ℕ = c.loop-p.p in
     let r : product_below (p + 1) f ≤ product_below c.args.n f = product_rises (p + 1) c.args.n f (omega arith) (λ i. omega arith) in

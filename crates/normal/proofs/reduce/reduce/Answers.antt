@@ -3,7 +3,7 @@ use Rattle.normal.proofs.reduce.reduce.Goals as goal
 
 pub returns : goal.returns
 returns g c = record {
-  says = c.reduce-seated.ensures.says;
-  after = c.reduce-seated.ensures.after;
+  says = c.reduce_seated.ensures.says;
+  after = c.reduce_seated.ensures.after;
   normal = arrangement_law.normal (g.N.Net.model c.args.net.now) (g.N.Net.lawful c.args.net.now);
 }

@@ -4,8 +4,8 @@ use Rattle.drawing.specs.Drawn.{drawn, drawn_lawful}
 use Rattle.normal.proofs.Reducing.{ranked_sheet}
 use Rattle.normal.proofs.reduce.write_ranked.Goals as goal
 
-pub invariant-of-ordered : goal.invariant-of-ordered
-invariant-of-ordered c =
+pub invariant_of-ordered : goal.invariant_of-ordered
+invariant_of-ordered c =
     let permutes = c.requires.ranked.arranges.permutes in
     ((c.requires.ranked.places_long, c.requires.ranked.transitions_long), (permutes.lands, (inverse_left _ _ permutes, tt)))
 

@@ -19,7 +19,7 @@ returns c =
     let bs = c.args.bytes.now in
     let r = c.refusal.result in
     let e = c.refusal.ensures in
-    let old = sheet_whole bs (λ i. (c.type-inv.bytes i).fits) in
+    let old = sheet_whole bs (λ i. (c.type_inv.bytes i).fits) in
     record {
       refusal = e;
       old = decides r bs (sheet_of (net_of bs) ≡ bs) (Unit {0}) e old (λ _. tt);

@@ -15,13 +15,13 @@ returns-then-form-ne-FORM c =
     let bs = c.args.bytes.now in
     sym (pass1 bs c.if-bytes-lt3.false ∙ stop2 bs (λ e. c.if-form-ne-FORM.true (c.form.ensures ∙ e)))
 
-pub returns-then-n-gt-MOST-PLACES : goal.returns-then-n-gt-MOST-PLACES
-returns-then-n-gt-MOST-PLACES c =
+pub returns-then-n-gt-MOST_PLACES : goal.returns-then-n-gt-MOST_PLACES
+returns-then-n-gt-MOST_PLACES c =
     let bs = c.args.bytes.now in
     sym (pass1 bs c.if-bytes-lt3.false ∙ pass2 bs (sym c.form.ensures ∙ c.if-form-ne-FORM.false) ∙ stop3 bs (omega (arith, c.places-n.ensures)))
 
-pub returns-then-ts-gt-MOST-TRANSITIONS : goal.returns-then-ts-gt-MOST-TRANSITIONS
-returns-then-ts-gt-MOST-TRANSITIONS c =
+pub returns-then-ts-gt-MOST_TRANSITIONS : goal.returns-then-ts-gt-MOST_TRANSITIONS
+returns-then-ts-gt-MOST_TRANSITIONS c =
     let bs = c.args.bytes.now in
     sym (pass1 bs c.if-bytes-lt3.false ∙ pass2 bs (sym c.form.ensures ∙ c.if-form-ne-FORM.false) ∙ pass3 bs (omega (arith, c.places-n.ensures))
     ∙ stop4 bs (omega (arith, c.transitions-ts.ensures)))
@@ -48,34 +48,34 @@ fill_is bs bits e l =
 pub returns-then-bytes-length : goal.returns-then-bytes-length
 returns-then-bytes-length c =
     let bs = c.args.bytes.now in
-    let e = bits_are bs _ _ _ c.places-n.ensures c.transitions-ts.ensures c.row-at-bits.ensures.0 in
+    let e = bits_are bs _ _ _ c.places-n.ensures c.transitions-ts.ensures c.row_at-bits.ensures.0 in
     sym (pass_head bs c.if-bytes-lt3.false (sym c.form.ensures ∙ c.if-form-ne-FORM.false) (omega (arith, c.places-n.ensures)) (omega (arith, c.transitions-ts.ensures))
     ∙ stop5 bs (λ h. c.if-bytes-length.true (h ∙ ap bytes_for (sym e))))
 
-pub returns-then-not-light-rows : goal.returns-then-not-light-rows
-returns-then-not-light-rows c =
+pub returns-then-not-light_rows : goal.returns-then-not-light_rows
+returns-then-not-light_rows c =
     let bs = c.args.bytes.now in
-    let e = bits_are bs _ _ _ c.places-n.ensures c.transitions-ts.ensures c.row-at-bits.ensures.0 in
+    let e = bits_are bs _ _ _ c.places-n.ensures c.transitions-ts.ensures c.row_at-bits.ensures.0 in
     sym (pass_head bs c.if-bytes-lt3.false (sym c.form.ensures ∙ c.if-form-ne-FORM.false) (omega (arith, c.places-n.ensures)) (omega (arith, c.transitions-ts.ensures))
     ∙ pass5 bs (c.if-bytes-length.false ∙ ap bytes_for e)
-    ∙ stop6 bs (rows_are bs _ _ _ c.places-n.ensures c.transitions-ts.ensures c.light-rows.ensures ∙ c.if-not-light-rows.true))
+    ∙ stop6 bs (rows_are bs _ _ _ c.places-n.ensures c.transitions-ts.ensures c.light_rows.ensures ∙ c.if-not-light_rows.true))
 
 pub returns-then-bytes-length-ne0 : goal.returns-then-bytes-length-ne0
 returns-then-bytes-length-ne0 c =
     let bs = c.args.bytes.now in
-    let e = bits_are bs _ _ _ c.places-n.ensures c.transitions-ts.ensures c.row-at-bits.ensures.0 in
+    let e = bits_are bs _ _ _ c.places-n.ensures c.transitions-ts.ensures c.row_at-bits.ensures.0 in
     let l = c.if-bytes-length.false ∙ ap bytes_for e in
     sym (pass_head bs c.if-bytes-lt3.false (sym c.form.ensures ∙ c.if-form-ne-FORM.false) (omega (arith, c.places-n.ensures)) (omega (arith, c.transitions-ts.ensures))
     ∙ pass5 bs l
-    ∙ pass6 bs (rows_are bs _ _ _ c.places-n.ensures c.transitions-ts.ensures c.light-rows.ensures ∙ c.if-not-light-rows.false)
-    ∙ stop7 bs (λ h. c.if-bytes-length-ne0.true (fill_is bs c.row-at-bits.result e l ∙ h)))
+    ∙ pass6 bs (rows_are bs _ _ _ c.places-n.ensures c.transitions-ts.ensures c.light_rows.ensures ∙ c.if-not-light_rows.false)
+    ∙ stop7 bs (λ h. c.if-bytes-length-ne0.true (fill_is bs c.row_at-bits.result e l ∙ h)))
 
 pub returns : goal.returns
 returns c =
     let bs = c.args.bytes.now in
-    let e = bits_are bs _ _ _ c.places-n.ensures c.transitions-ts.ensures c.row-at-bits.ensures.0 in
+    let e = bits_are bs _ _ _ c.places-n.ensures c.transitions-ts.ensures c.row_at-bits.ensures.0 in
     let l = c.if-bytes-length.false ∙ ap bytes_for e in
     sym (pass_head bs c.if-bytes-lt3.false (sym c.form.ensures ∙ c.if-form-ne-FORM.false) (omega (arith, c.places-n.ensures)) (omega (arith, c.transitions-ts.ensures))
     ∙ pass5 bs l
-    ∙ pass6 bs (rows_are bs _ _ _ c.places-n.ensures c.transitions-ts.ensures c.light-rows.ensures ∙ c.if-not-light-rows.false)
-    ∙ pass7 bs (sym (fill_is bs c.row-at-bits.result e l) ∙ c.if-bytes-length-ne0.false))
+    ∙ pass6 bs (rows_are bs _ _ _ c.places-n.ensures c.transitions-ts.ensures c.light_rows.ensures ∙ c.if-not-light_rows.false)
+    ∙ pass7 bs (sym (fill_is bs c.row_at-bits.result e l) ∙ c.if-bytes-length-ne0.false))

@@ -4,6 +4,6 @@ use Rattle.reader.proofs.offsets.row_at.Goals as goal
 
 pub returns : goal.returns
 returns c = (
-  omega (arith, c.label-at.ensures.0),
-  omega (arith, c.requires, c.label-at.ensures.1, mul-le c.args.t (10 + 16 * c.args.n) 255 1034 (omega arith) (omega (arith, c.requires))),
+  omega (arith, c.label_at.ensures.0),
+  omega (arith, c.requires, c.label_at.ensures.1, mul-le c.args.t (10 + 16 * c.args.n) 255 1034 (omega arith) (omega (arith, c.requires))),
 )

@@ -4,7 +4,7 @@ use Rattle.report.proofs.line.push_counts.Goals as goal
 
 pub returns : goal.returns
 returns c = record {
-  grows = grows_then _ _ c.push-column.ensures.grows (grows_then _ _ c.push-column-2.ensures.grows
-      (grows_then _ _ c.push-column-3.ensures.grows (grows_then _ _ c.push-column-4.ensures.grows c.push-column-5.ensures.grows)));
-  short = omega (arith, c.push-column.ensures.short, c.push-column-2.ensures.short, c.push-column-3.ensures.short, c.push-column-4.ensures.short, c.push-column-5.ensures.short);
+  grows = grows_then _ _ c.push_column.ensures.grows (grows_then _ _ c.push_column-2.ensures.grows
+      (grows_then _ _ c.push_column-3.ensures.grows (grows_then _ _ c.push_column-4.ensures.grows c.push_column-5.ensures.grows)));
+  short = omega (arith, c.push_column.ensures.short, c.push_column-2.ensures.short, c.push_column-3.ensures.short, c.push_column-4.ensures.short, c.push_column-5.ensures.short);
 }

@@ -9,10 +9,10 @@ pub returns : goal.returns
 unfolding listing_of
 returns c =
     let bs = c.args.input.now in
-    let sides = c.read-sides-left in
+    let sides = c.read_sides-left in
     record {
-      bytes = c.push-line-2.ensures.grows.text
-          ∙ ap₂ (λ (xs ys : List ℕ). xs ++ ys) (c.push-line.ensures.grows.text ∙ ap₂ (λ (xs ys : List ℕ). xs ++ ys) c.new-text.ensures.0
+      bytes = c.push_line-2.ensures.grows.text
+          ∙ ap₂ (λ (xs ys : List ℕ). xs ++ ys) (c.push_line.ensures.grows.text ∙ ap₂ (λ (xs ys : List ℕ). xs ++ ys) c.new-text.ensures.0
           (tells_line sides.result.0 (left_refusal bs) (sheet_in bs) sides.ensures.left))
           (tells_line sides.result.1 (right_refusal bs) (sheet_in (after_frame bs)) sides.ensures.right);
       ignored = λ more h. listing_more bs more (omega arith);

@@ -14,7 +14,7 @@ use Rattle.search.proofs.Standing.{sorted_standing, rows_same}
 use Rattle.search.proofs.LeastRows.{least_low, least_coarse, least_back}
 use Rattle.search.proofs.Nodes.{Met, only_one, all_fixed, fixed_more, covered, cut}
 use Rattle.search.proofs.descent.+descend.Goals as goal
-use Rattle.search.proofs.descent.+descend.Goals.{then-same-row, else-same-row}
+use Rattle.search.proofs.descent.+descend.Goals.{then-same_row, else-same_row}
 
 pub loop-k-init : goal.loop-k-init
 loop-k-init t c = (c.requires.listed, c.requires.good, at_most_self _, λ b ob x l m e. absurd (omega arith))
@@ -28,18 +28,18 @@ loop-k-preserved t c =
     let r : ℕ = c.args.r in
     let y = at c.choose-choice.result.places in
     let index : ℕ = c.choose-choice.result.index in
-    let x = at c.least-row-next.result.places in
+    let x = at c.least_row-next.result.places in
     let ch = c.choose-choice.ensures in
-    let l = c.least-row-next.ensures in
+    let l = c.least_row-next.ensures in
     let before = at c.loop-k.best.places in
     let P : List ℕ → Ranking → Type 0 = λ h b. Injects (at h) N.transitions N.transitions × Candidate N b
     × (at_most (rows_along N (at b.places)) (rows_along N (at c.args.best.now.places)) ≡ true)
     × Met N C r (k + 1) order (row N y (order index)) (rows_along N (at b.places)) in
-    elim c.if-same-row.branch [
-      | then-same-row w ↦
+    elim c.if-same_row.branch [
+      | then-same_row w ↦
           let after = at w.descend.new.best.places in
-          let same : row N x (order k) ≡ row N y (order index) = c.same-row.ensures.same w.if-same-row.true in
-          subst (λ (v : List ℕ). P v c.if-same-row.best) (sym w.last-is)
+          let same : row N x (order k) ≡ row N y (order index) = c.same_row.ensures.same w.if-same_row.true in
+          subst (λ (v : List ℕ). P v c.if-same_row.best) (sym w.last-is)
           (subst (λ (v : Ranking). P w.descend.new.last v) (sym w.best-is) (
             w.descend.ensures.listed,
             w.descend.ensures.good,
@@ -49,8 +49,8 @@ loop-k-preserved t c =
               | inr v ↦ at_most_trans (rows_along N after) (rows_along N before) (rows_along N o) w.descend.ensures.better (c.loop-k.invariant.3 o oo z p (omega arith) e)
             ],
           ))
-      | else-same-row w ↦
-          subst (λ (v : List ℕ). P v c.if-same-row.best) (sym w.last-is)
+      | else-same_row w ↦
+          subst (λ (v : List ℕ). P v c.if-same_row.best) (sym w.last-is)
           (subst (λ (v : Ranking). P c.loop-k.last v) (sym w.best-is) (
             c.loop-k.invariant.0,
             c.loop-k.invariant.1,
@@ -60,7 +60,7 @@ loop-k-preserved t c =
                   let here : row N o (order k) ≡ row N y (order index) = ap (λ (u : ℕ). row N o (order u)) (sym v) ∙ e in
                   let low : at_most (row N x (order k)) (row N y (order index)) ≡ true = subst (λ (u : List ℕ). at_most (row N x (order k)) u ≡ true) here (least_low N (order k) C _ x l o oo) in
                   let high : at_most (row N y (order index)) (row N x (order k)) ≡ true = ch.low x (least_coarse N (order k) C _ x l x l.orders) k c.loop-k.auto.k c.loop-k-test.true in
-                  absurd (c.same-row.ensures.other w.if-same-row.false (at_most_anti _ _ low high))
+                  absurd (c.same_row.ensures.other w.if-same_row.false (at_most_anti _ _ low high))
               | inr v ↦ c.loop-k.invariant.3 o oo z p (omega arith) e
             ],
           ))
@@ -73,8 +73,8 @@ descend-requires t c =
     let order = at c.args.order.now in
     let k : ℕ = c.loop-k.k in
     let r : ℕ = c.args.r in
-    let l = c.least-row-next.ensures in
-    let x = at c.least-row-next.result.places in (
+    let l = c.least_row-next.ensures in
+    let x = at c.least_row-next.result.places in (
       omega (arith, c.if-r-net.false),
       (
         c.requires.small,
@@ -85,7 +85,7 @@ descend-requires t c =
             (
               λ b ob. c.requires.within b (least_coarse N (order k) C _ x l b ob),
               (
-                fixed_more N c.requires.distinct C _ r order _ (at c.args.cells.now.places) x (at c.choose-choice.result.places) k c.choose-choice.result.index c.if-r-net.false c.requires.all c.requires.within c.requires.fixed c.choose-choice.ensures c.loop-k.auto.k c.loop-k-test.true l (c.if-same-row.ensures.same refl) c.exchanged-moved.ensures,
+                fixed_more N c.requires.distinct C _ r order _ (at c.args.cells.now.places) x (at c.choose-choice.result.places) k c.choose-choice.result.index c.if-r-net.false c.requires.all c.requires.within c.requires.fixed c.choose-choice.ensures c.loop-k.auto.k c.loop-k-test.true l (c.if-same_row.ensures.same refl) c.exchanged-moved.ensures,
                 (injects_swapped order _ r k _ _ c.exchanged-moved.ensures c.if-r-net.false c.loop-k-test.true c.requires.all, (c.loop-k.invariant.0, c.loop-k.invariant.1)),
               ),
             ),
@@ -110,17 +110,17 @@ returns t c =
           (rows_along N (at c.loop-k.best.places)) y index ch.orders ch.late ch.early refl (λ b ob x l m e. c.loop-k.invariant.3 b ob x l (omega (arith, c.loop-k-test.false)) e);
     }
 
-pub returns-then-all-apart : goal.returns-then-all-apart
-returns-then-all-apart t c =
+pub returns-then-all_apart : goal.returns-then-all_apart
+returns-then-all_apart t c =
     let N : Model = model_of c.args.net.now in
     let a = at c.args.cells.now.places in
-    let s = c.settle-then-all-apart.ensures in
+    let s = c.settle-then-all_apart.ensures in
     record {
       listed = s.all;
       good = s.good;
       better = s.better;
-      least = λ b ob. subst (λ (z : List ℕ). at_most (rows_along N (at c.settle-then-all-apart.new.best.places)) z ≡ true)
-          (rows_same N a b (only_one N.places (at c.args.cells.now.labels) a b c.requires.orders ob (c.all-apart.ensures c.if-all-apart.true))) s.met;
+      least = λ b ob. subst (λ (z : List ℕ). at_most (rows_along N (at c.settle-then-all_apart.new.best.places)) z ≡ true)
+          (rows_same N a b (only_one N.places (at c.args.cells.now.labels) a b c.requires.orders ob (c.all_apart.ensures c.if-all_apart.true))) s.met;
     }
 
 pub returns-then-r-net : goal.returns-then-r-net
@@ -136,8 +136,8 @@ returns-then-r-net t c =
           (all_fixed N (at c.args.cells.now.labels) c.args.r (at c.args.order.now) _ c.if-r-net.true c.requires.fixed a b c.requires.orders ob) s.met;
     }
 
-pub settle-requires-then-all-apart : goal.settle-requires-then-all-apart
-settle-requires-then-all-apart t c = record { small = c.requires.small; distinct = c.requires.distinct; arranged = c.requires.within (at c.args.cells.now.places) c.requires.orders; all = c.requires.listed; good = c.requires.good }
+pub settle-requires-then-all_apart : goal.settle-requires-then-all_apart
+settle-requires-then-all_apart t c = record { small = c.requires.small; distinct = c.requires.distinct; arranged = c.requires.within (at c.args.cells.now.places) c.requires.orders; all = c.requires.listed; good = c.requires.good }
 
 pub settle-requires : goal.settle-requires
 settle-requires t c = record { small = c.requires.small; distinct = c.requires.distinct; arranged = c.requires.within (at c.args.cells.now.places) c.requires.orders; all = c.requires.listed; good = c.requires.good }

@@ -18,8 +18,8 @@ loop-k-init c =
     let C = at c.args.cells.now.labels in
     let order = at c.args.order.now in
     let r : ℕ = c.args.r in
-    let x = at c.least-row-first.result.places in
-    let l = c.least-row-first.ensures in
+    let x = at c.least_row-first.result.places in
+    let l = c.least_row-first.ensures in
     (omega arith, c.requires.few, least_coarse N (order r) C _ x l x l.orders, at_most_more N C r r order _ x l x r (λ b ob z p q. absurd (omega arith)) (at_most_self (row N x (order r))))
 
 pub loop-k-preserved : goal.loop-k-preserved
@@ -31,16 +31,16 @@ loop-k-preserved c =
     let r : ℕ = c.args.r in
     let old : List ℕ = c.loop-k.places in
     let j : ℕ = c.loop-k.index in
-    let new : List ℕ = c.match-compare-rows.places in
-    let i : ℕ = c.match-compare-rows.index in
-    let l = c.least-row-next.ensures in
+    let new : List ℕ = c.match-compare_rows.places in
+    let i : ℕ = c.match-compare_rows.index in
+    let l = c.least_row-next.ensures in
     let P : ℕ → List ℕ → Type 0 = λ i v. (r ≤ i) × (i < N.transitions) × OrderedBy N.places C (at v)
     × AtMostRows N C r (k + 1) order i (at v) in
-    elim c.match-compare-rows.branch [
+    elim c.match-compare_rows.branch [
       | in-Less w ↦ subst (λ (v : ℕ). P v new) (sym w.index-is) (subst (λ (v : List ℕ). P k v) (sym w.places-is)
           (omega (arith, c.loop-k.auto.k), c.loop-k-test.true, least_coarse N (order k) C _ _ l _ l.orders, at_most_next N C r k order _ _ l (at old) j c.loop-k.invariant.3 w.in-Less.ensures))
       | in-Equal w ↦ subst (λ (v : ℕ). P v new) (sym w.index-is) (subst (λ (v : List ℕ). P j v) (sym w.places-is)
-          (c.loop-k.invariant.0, c.loop-k.invariant.1, c.loop-k.invariant.2, at_most_more N C r k order _ _ l (at old) j c.loop-k.invariant.3 (subst (λ (v : List ℕ). at_most v (row N (at c.least-row-next.result.places) (order k)) ≡ true) w.in-Equal.ensures (at_most_self (row N (at c.least-row-next.result.places) (order k))))))
+          (c.loop-k.invariant.0, c.loop-k.invariant.1, c.loop-k.invariant.2, at_most_more N C r k order _ _ l (at old) j c.loop-k.invariant.3 (subst (λ (v : List ℕ). at_most v (row N (at c.least_row-next.result.places) (order k)) ≡ true) w.in-Equal.ensures (at_most_self (row N (at c.least_row-next.result.places) (order k))))))
       | in-Greater w ↦ subst (λ (v : ℕ). P v new) (sym w.index-is) (subst (λ (v : List ℕ). P j v) (sym w.places-is)
           (c.loop-k.invariant.0, c.loop-k.invariant.1, c.loop-k.invariant.2, at_most_more N C r k order _ _ l (at old) j c.loop-k.invariant.3 (lower_at_most _ _ w.in-Greater.ensures)))
     ]

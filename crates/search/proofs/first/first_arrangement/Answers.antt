@@ -38,8 +38,8 @@ loop-k-preserved c =
 
 pub loop-k-init : goal.loop-k-init
 loop-k-init c =
-    let same = c.numbered-places-a.ensures.same in (
-      c.numbered-places-a.ensures.long,
+    let same = c.numbered_places-a.ensures.same in (
+      c.numbered_places-a.ensures.long,
       record { lands = λ i l. omega (arith, same i (omega (arith, c.requires.0))); apart = λ i k l m e. omega (arith, same i (omega (arith, c.requires.0)), same k (omega (arith, c.requires.0))) },
       λ x y l m. absurd (omega arith),
     )

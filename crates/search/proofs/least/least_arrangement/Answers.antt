@@ -19,27 +19,27 @@ from_arrangement N d b f o = record {
   ascends = λ i j l m. f.joins (b i) (b j) (o.permutes.lands i (omega arith)) (o.permutes.lands j m) (key_from_label N.place_label (b i) (b j) (o.ascends i j l m));
 }
 
-pub sort-rows-requires : goal.sort-rows-requires
-sort-rows-requires c =
-    let same = c.numbered-transitions-transitions.ensures.same in
+pub sort_rows-requires : goal.sort_rows-requires
+sort_rows-requires c =
+    let same = c.numbered_transitions-transitions.ensures.same in
     record {
       small = c.requires.small;
-      within = λ i l. omega (arith, c.requires.small.0, c.first-arrangement-places.ensures.arranges.permutes.lands i l);
+      within = λ i l. omega (arith, c.requires.small.0, c.first_arrangement-places.ensures.arranges.permutes.lands i l);
       all = record { lands = λ i l. omega (arith, c.requires.small.1, same i (omega (arith, c.requires.small.1))); apart = λ i k l m e. omega (arith, same i (omega (arith, c.requires.small.1)), same k (omega (arith, c.requires.small.1))) };
     }
 
 pub descend-requires : goal.descend-requires
 descend-requires c =
-    let sorted = c.sort-rows.ensures.sorted in
+    let sorted = c.sort_rows.ensures.sorted in
     record {
       small = c.requires.small;
       distinct = c.requires.distinct;
-      orders = c.label-cells-labels.ensures.orders;
-      within = λ b ob. to_arrangement (model_of c.args.net.now) _ b c.label-cells-labels.ensures.finer ob;
+      orders = c.label_cells-labels.ensures.orders;
+      within = λ b ob. to_arrangement (model_of c.args.net.now) _ b c.label_cells-labels.ensures.finer ob;
       fixed = λ b ob k l. absurd (omega arith);
       all = sorted.all;
       listed = sorted.all;
-      good = record { arranges = c.first-arrangement-places.ensures.arranges; sorted = sorted; places_long = c.first-arrangement-places.ensures.long; transitions_long = c.sort-rows.ensures.long };
+      good = record { arranges = c.first_arrangement-places.ensures.arranges; sorted = sorted; places_long = c.first_arrangement-places.ensures.long; transitions_long = c.sort_rows.ensures.long };
     }
 
 pub returns : goal.returns
@@ -49,7 +49,7 @@ returns c =
     record {
       arranges = good.arranges;
       stands = λ j l. sym (sorted_standing N (at c.descend.new.best.places) _ c.requires.distinct good.arranges good.sorted j l);
-      least = λ b o. c.descend.ensures.least b (from_arrangement N _ b c.label-cells-labels.ensures.finer o);
+      least = λ b o. c.descend.ensures.least b (from_arrangement N _ b c.label_cells-labels.ensures.finer o);
       places_long = good.places_long;
       transitions_long = good.transitions_long;
     }

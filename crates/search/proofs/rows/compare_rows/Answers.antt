@@ -17,4 +17,4 @@ pub returns-in-Greater : goal.returns-in-Greater
 returns-in-Greater c = row_causes (model_of c.args.net.now) (at c.args.b.now) (at c.args.a.now) c.args.u c.args.t (omega arith) c.in-Greater.ensures
 
 pub returns-in-Equal : goal.returns-in-Equal
-returns-in-Equal c = row_compares (model_of c.args.net.now) (at c.args.a.now) (at c.args.b.now) c.args.t c.args.u _ (omega arith) c.in-Equal.ensures c.compare-weights-in-Equal.ensures
+returns-in-Equal c = row_compares (model_of c.args.net.now) (at c.args.a.now) (at c.args.b.now) c.args.t c.args.u _ (omega arith) c.in-Equal.ensures c.compare_weights-in-Equal.ensures

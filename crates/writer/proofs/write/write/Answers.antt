@@ -25,15 +25,15 @@ push-head-requires g c = record {
   room = omega (arith, c.push-form.ensures.sized, c.push-places.ensures.sized);
 }
 
-pub write-labels-labelled-requires : goal.write-labels-labelled-requires
+pub write_labels-labelled-requires : goal.write_labels-labelled-requires
 unfolding size
-write-labels-labelled-requires g c = record {
+write_labels-labelled-requires g c = record {
   room = omega (arith, (g.N.Net.lawful c.args.net.now).few_places, c.push-form.ensures.sized, c.push-places.ensures.sized, c.push-head.ensures.sized);
 }
 
-pub write-rows-whole-requires : goal.write-rows-whole-requires
+pub write_rows-whole-requires : goal.write_rows-whole-requires
 unfolding size
-write-rows-whole-requires g c =
+write_rows-whole-requires g c =
     let m = g.N.Net.model c.args.net.now in
     let w = g.N.Net.lawful c.args.net.now in
     record {
@@ -44,7 +44,7 @@ write-rows-whole-requires g c =
         c.push-form.ensures.sized,
         c.push-places.ensures.sized,
         c.push-head.ensures.sized,
-        c.write-labels-labelled.ensures.sized,
+        c.write_labels-labelled.ensures.sized,
       );
     }
 
@@ -62,8 +62,8 @@ finish-requires g c =
         c.push-form.ensures.sized,
         c.push-places.ensures.sized,
         c.push-head.ensures.sized,
-        c.write-labels-labelled.ensures.sized,
-        c.write-rows-whole.ensures.sized,
+        c.write_labels-labelled.ensures.sized,
+        c.write_rows-whole.ensures.sized,
       );
     }
 
@@ -71,14 +71,14 @@ pub returns : goal.returns
 returns g c =
     let m = g.N.Net.model c.args.net.now in
     let buf = c.args.buffer.now in
-    let body = writes_join c.write-labels-labelled.ensures c.write-rows-whole.ensures in
-    let all : Writes (fields_of m) buf c.start.result c.write-rows-whole.new.buffer c.write-rows-whole.result =
+    let body = writes_join c.write_labels-labelled.ensures c.write_rows-whole.ensures in
+    let all : Writes (fields_of m) buf c.start.result c.write_rows-whole.new.buffer c.write_rows-whole.result =
     writes_join c.push-form.ensures (writes_join (writes_value c.places.ensures c.push-places.ensures) (writes_join (writes_value c.transitions.ensures c.push-head.ensures) body)) in
     let done = sheet_written (fields_of m) buf c.finish.new.buffer c.finish.result
     (c.finish.ensures buf (spelt 0 (fields_of m)) (0 + size (fields_of m)) (all.inked buf 0 0 (ink_start buf _ _ _ c.start.ensures.0 c.start.ensures.1 c.start.ensures.2))) in
     let after : c.finish.new.buffer ≡ sheet_of m ++ drop c.finish.result buf = done.1 ∙ ap (λ (k : ℕ). sheet_of m ++ drop k buf) (sym done.0) in
     record {
-      refusal = sym (cond-false (ltb (length buf) 16627) 31 0 (le-ltb (length buf) 16627 c.if-room-lt-LONGEST-SHEET.false));
+      refusal = sym (cond-false (ltb (length buf) 16627) 31 0 (le-ltb (length buf) 16627 c.if-room-lt-LONGEST_SHEET.false));
       after = (done.0, after);
       short = omega (arith, done.0, sheet_short m (g.N.Net.lawful c.args.net.now));
       round_trip = round_trip m (g.N.Net.lawful c.args.net.now) c.finish.result c.finish.new.buffer (drop c.finish.result buf) done.0 after;

@@ -8,9 +8,9 @@ pub loop-p-init : goal.loop-p-init
 unfolding each
 loop-p-init g c = writes_none c.args.buffer.now c.args.pen
 
-pub push-label-ink-requires : goal.push-label-ink-requires
-push-label-ink-requires g c = record {
-  fits = c.place-label-number.ensures.1;
+pub push_label-ink-requires : goal.push_label-ink-requires
+push_label-ink-requires g c = record {
+  fits = c.place_label_number.ensures.1;
   room = omega (arith, c.requires.room, c.places-p-end.ensures, c.loop-p.invariant.sized, size_same 10 (g.N.Net.model c.args.net.now).place_label c.loop-p.p);
 }
 
@@ -18,7 +18,7 @@ pub loop-p-preserved : goal.loop-p-preserved
 loop-p-preserved g c =
     let f : ℕ → List Field = λ p. (10, (g.N.Net.model c.args.net.now).place_label p) ∷ [] in
     writes_more f c.loop-p.p c.loop-p.invariant
-    (writes_value c.place-label-number.ensures.0 c.push-label-ink.ensures)
+    (writes_value c.place_label_number.ensures.0 c.push_label-ink.ensures)
 
 pub returns : goal.returns
 returns g c =

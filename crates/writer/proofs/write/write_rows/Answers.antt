@@ -10,8 +10,8 @@ pub loop-t-init : goal.loop-t-init
 unfolding each
 loop-t-init g c = writes_none c.args.buffer.now c.args.pen
 
-pub write-row-ink-requires : goal.write-row-ink-requires
-write-row-ink-requires g c =
+pub write_row-ink-requires : goal.write_row-ink-requires
+write_row-ink-requires g c =
     let m = g.N.Net.model c.args.net.now in
     let t = c.loop-t.t in
     let l : t + 1 ≤ m.transitions = omega (arith, c.transitions-t-end.ensures) in
@@ -20,7 +20,7 @@ write-row-ink-requires g c =
     }
 
 pub loop-t-preserved : goal.loop-t-preserved
-loop-t-preserved g c = writes_more (row_of (g.N.Net.model c.args.net.now)) c.loop-t.t c.loop-t.invariant c.write-row-ink.ensures
+loop-t-preserved g c = writes_more (row_of (g.N.Net.model c.args.net.now)) c.loop-t.t c.loop-t.invariant c.write_row-ink.ensures
 
 pub returns : goal.returns
 returns g c =

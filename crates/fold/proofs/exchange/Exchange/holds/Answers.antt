@@ -3,7 +3,7 @@ use Rattle.std.proofs.lemmas.Bool.{or_from, or_left, or_right, and_from, and_lef
 use Rattle.finite.proofs.Tests.{all_none, all_more, all_fails, any_from}
 use Rattle.bisimulation.specs.Rounds.{exchanges}
 use Rattle.fold.proofs.Loops.{all_end, any_none, any_more, any_end}
-use Rattle.fold.proofs.exchange.Exchange.holds.Goals.{else-same-transition-via-then-same-transition+else-replaces, else-same-transition-via-else-same-transition}
+use Rattle.fold.proofs.exchange.Exchange.holds.Goals.{else-same_transition-via-then-same_transition+else-replaces, else-same_transition-via-else-same_transition}
 use Rattle.fold.proofs.exchange.Exchange.holds.Goals as goal
 
 pos_of : (n : ℕ) → (n ≡ 0 → ⊥) → 0 < n
@@ -25,13 +25,13 @@ transitions-preserved-then-cause-eq0 g c =
 pub transitions-preserved : goal.transitions-preserved
 transitions-preserved g c = all_more c.transitions.t _ c.transitions.invariant
     (or_right _ _ (any_from _ _ c.loop-u.u (omega (arith, c.transitions-u-end.ensures))
-    (and_from _ _ (sym c.if-same-transition.ensures) (sym c.if-replaces.ensures))))
+    (and_from _ _ (sym c.if-same_transition.ensures) (sym c.if-replaces.ensures))))
 
 pub loop-u-preserved : goal.loop-u-preserved
 loop-u-preserved g c = any_more c.loop-u.u _ c.loop-u.invariant
-    (elim c.else-same-transition.branch [
-      | else-same-transition-via-then-same-transition+else-replaces w ↦ and_right _ _ (sym w.if-replaces.ensures)
-      | else-same-transition-via-else-same-transition w ↦ and_left _ _ (sym w.if-same-transition.ensures)
+    (elim c.else-same_transition.branch [
+      | else-same_transition-via-then-same_transition+else-replaces w ↦ and_right _ _ (sym w.if-replaces.ensures)
+      | else-same_transition-via-else-same_transition w ↦ and_left _ _ (sym w.if-same_transition.ensures)
     ])
 
 -- no partner: the exchange does not hold

@@ -14,8 +14,8 @@ bounds-self-place g c =
     let grouping = x.groups.now in
     omega (arith, grouping.few.0, group_below (λ i. get_or grouping.place_leaders i 0) grouping.places x.place_groups x.place_leaders c.args.place.0 x.counted.0 (omega arith))
 
-pub group-weight-requires : goal.group-weight-requires
-group-weight-requires g c =
+pub group_weight-requires : goal.group_weight-requires
+group_weight-requires g c =
     let x = c.args.self.now in
     let grouping = x.groups.now in
     omega (arith, grouping.few.0, leader_below (λ i. get_or grouping.place_leaders i 0) grouping.places x.place_groups x.place_leaders c.args.place.0 x.counted.0 x.places (omega arith))
@@ -23,7 +23,7 @@ group-weight-requires g c =
 pub returns : goal.returns
 returns g c =
     let x = c.args.self.now in
-    c.group-weight.ensures
+    c.group_weight.ensures
     ∙ weight_read (g.N.Net.model x.net.now) x.groups.now (sym c.if-not-fits.ensures) c.args.bag c.args.transition.0 c.args.place.0
     (get_or x.transition_leaders c.args.transition.0 0) (get_or x.place_leaders c.args.place.0 0)
     (omega (arith, x.counted.1)) (omega (arith, x.counted.0))

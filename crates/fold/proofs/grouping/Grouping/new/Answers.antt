@@ -2,5 +2,5 @@ use Rattle.std.proofs.Common.{refl, arith}
 use Rattle.finite.proofs.Tables.{zero_list}
 use Rattle.fold.proofs.grouping.Grouping.new.Goals as goal
 
-pub invariant-of-result : goal.invariant-of-result
-invariant-of-result c = ((refl, refl), ((λ p. omega (arith, zero_list 64 p)), ((omega arith, omega arith), tt)))
+pub invariant_of-result : goal.invariant_of-result
+invariant_of-result c = ((refl, refl), ((λ p. omega (arith, zero_list 64 p)), ((omega arith, omega arith), tt)))

@@ -10,9 +10,9 @@ use Rattle.reader.proofs.sheet.SheetReader.new.Goals as goal
 small : (i : ℕ) → get_or (16 ∷ 0 ∷ 0 ∷ []) i 0 < 256
 small i = all_get_d_any (16 ∷ 0 ∷ 0 ∷ []) (omega arith, (omega arith, (omega arith, tt))) i
 
-pub invariant-of-result : goal.invariant-of-result
+pub invariant_of-result : goal.invariant_of-result
 unfolding sheet_refusal all_below spelt first field_at
-invariant-of-result c = (refl, (small, ((refl, refl), tt)))
+invariant_of-result c = (refl, (small, ((refl, refl), tt)))
 
 pub returns : goal.returns
 unfolding sheet_refusal all_below spelt first field_at

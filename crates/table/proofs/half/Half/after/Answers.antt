@@ -10,7 +10,7 @@ loop-x-init c = (length-replicate {A = ℕ} 64 0, λ y l. absurd (omega arith))
 pub loop-x-preserved : goal.loop-x-preserved
 loop-x-preserved c = (
   length-set c.loop-x.new c.loop-x.x _ ∙ c.loop-x.invariant.0,
-  write_more c.loop-x.new c.loop-x.x _ _ (omega (arith, c.loop-x.invariant.0, c.args.self.now.net.counts.0)) c.count-after.ensures.value c.loop-x.invariant.1,
+  write_more c.loop-x.new c.loop-x.x _ _ (omega (arith, c.loop-x.invariant.0, c.args.self.now.net.counts.0)) c.count_after.ensures.value c.loop-x.invariant.1,
 )
 
 pub returns : goal.returns

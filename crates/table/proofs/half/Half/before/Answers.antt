@@ -9,14 +9,14 @@ use Rattle.table.proofs.half.Half.before.Goals as goal
 pub loop-x-init : goal.loop-x-init
 loop-x-init c = (length-replicate {A = ℕ} 64 0, λ y l. absurd (omega arith))
 
-pub overflow-sub-left : goal.overflow-sub-left
-overflow-sub-left c =
+pub overflow_sub-left : goal.overflow_sub-left
+overflow_sub-left c =
     let s = c.args.self.now in
     let l : c.loop-x.x < (net_of s).places = omega arith in
     omega (arith, at_held s.tokens (net_of s).places c.loop-x.x l, c.gives.ensures, c.requires c.loop-x.x l)
 
-pub overflow-add-old : goal.overflow-add-old
-overflow-add-old c =
+pub overflow_add-old : goal.overflow_add-old
+overflow_add-old c =
     let s = c.args.self.now in
     let l : c.loop-x.x < (net_of s).places = omega arith in
     let a = term_le (net_of s).places (at s.tokens) c.loop-x.x l in

@@ -6,8 +6,8 @@ use Rattle.play.proofs.Markings.{covers_at}
 use Rattle.table.specs.Views.{net_of, held}
 use Rattle.table.proofs.half.Half.count_after.Goals as goal
 
-pub overflow-sub-left : goal.overflow-sub-left
-overflow-sub-left c =
+pub overflow_sub-left : goal.overflow_sub-left
+overflow_sub-left c =
     let s = c.args.self.now in
     omega (
       arith,
@@ -16,8 +16,8 @@ overflow-sub-left c =
       covers_at (net_of s) (held s) c.args.sort c.args.number c.requires.covered c.args.place c.requires.there,
     )
 
-pub overflow-add-result : goal.overflow-add-result
-overflow-add-result c =
+pub overflow_add-result : goal.overflow_add-result
+overflow_add-result c =
     let s = c.args.self.now in
     let a = term_le (net_of s).places (at s.tokens) c.args.place c.requires.there in
     search rules
@@ -28,5 +28,5 @@ returns c =
     let a = term_le (net_of s).places (at s.tokens) c.args.place c.requires.there in
     record {
       value = ap₂ ◌+◌ (ap₂ ◌-◌ (sym (at_held s.tokens (net_of s).places c.args.place c.requires.there)) c.takes.ensures) c.gives.ensures;
-      bound = omega (arith, a, s.room, c.gives.type-inv);
+      bound = omega (arith, a, s.room, c.gives.type_inv);
     }

@@ -16,18 +16,18 @@ counts s label q = cond (eqb ((net_of s).place_label q) label) (at (held s) q) 0
 pub loop-p-init : goal.loop-p-init
 loop-p-init c = (sym (sum_none _), omega arith)
 
-pub overflow-add-all : goal.overflow-add-all
-overflow-add-all c =
+pub overflow_add-all : goal.overflow_add-all
+overflow_add-all c =
     let s = c.args.self.now in
     let l : c.loop-p.p < (net_of s).places = omega arith in
     let a = term_le (net_of s).places (at s.tokens) c.loop-p.p l in
     let few = s.net.counts.0 in
     search rules
 
-pub loop-p-preserved-then-place-label-number-label : goal.loop-p-preserved-then-place-label-number-label
-loop-p-preserved-then-place-label-number-label c =
+pub loop-p-preserved-then-place_label_number-label : goal.loop-p-preserved-then-place_label_number-label
+loop-p-preserved-then-place_label_number-label c =
     let s = c.args.self.now in
-    let none : counts s c.args.label.0 c.loop-p.p ≡ 0 = cond-false _ _ _ (ne_eqb _ _ (λ e. c.if-place-label-number-label.true (c.place-label-number.ensures.0 ∙ e))) in
+    let none : counts s c.args.label.0 c.loop-p.p ≡ 0 = cond-false _ _ _ (ne_eqb _ _ (λ e. c.if-place_label_number-label.true (c.place_label_number.ensures.0 ∙ e))) in
     (omega (arith, none, sum_more c.loop-p.p (counts s c.args.label.0), c.loop-p.invariant.0), omega (arith, c.loop-p.invariant.1))
 
 pub loop-p-preserved : goal.loop-p-preserved
@@ -35,7 +35,7 @@ loop-p-preserved c =
     let s = c.args.self.now in
     let l : c.loop-p.p < (net_of s).places = omega arith in
     let all : counts s c.args.label.0 c.loop-p.p ≡ at s.tokens c.loop-p.p =
-    cond-true _ _ _ (eq-eqb _ _ (sym c.place-label-number.ensures.0 ∙ c.if-place-label-number-label.false)) ∙ at_held s.tokens (net_of s).places c.loop-p.p l in (
+    cond-true _ _ _ (eq-eqb _ _ (sym c.place_label_number.ensures.0 ∙ c.if-place_label_number-label.false)) ∙ at_held s.tokens (net_of s).places c.loop-p.p l in (
       omega (arith, all, sum_more c.loop-p.p (counts s c.args.label.0), c.loop-p.invariant.0),
       omega (arith, term_le (net_of s).places (at s.tokens) c.loop-p.p l, s.room, c.loop-p.invariant.1),
     )

@@ -9,8 +9,8 @@ use Rattle.play.proofs.Markings.{at_tabulate}
 use Rattle.play.proofs.Tokens.{held_is}
 use Rattle.table.proofs.half.Half.new.Goals as goal
 
-pub invariant-of-result : goal.invariant-of-result
-invariant-of-result c = (omega (arith, sum_zero (drawn c.args.net).places _ (λ x l. zero_list 64 x)), tt)
+pub invariant_of-result : goal.invariant_of-result
+invariant_of-result c = (omega (arith, sum_zero (drawn c.args.net).places _ (λ x l. zero_list 64 x)), tt)
 
 pub returns : goal.returns
 returns c =

@@ -18,11 +18,11 @@ returns-in-Err c =
 
 pub after-tokens-requires : goal.after-tokens-requires
 after-tokens-requires c =
-    answer_covers c.args.self.now c.args.due.lead (sym c.if-not-owes.ensures) c.other-side.result c.other-side.ensures c.args.number c.half-half.result.now c.half-half.ensures c.in-default.ensures
+    answer_covers c.args.self.now c.args.due.lead (sym c.if-not-owes.ensures) c.other-side.result c.other-side.ensures c.args.number c.half-half.result.now c.half-half.ensures c.in_default.ensures
 
 pub write-requires : goal.write-requires
 write-requires c =
-    answer_kept c.args.self.now c.args.due.lead (sym c.if-not-owes.ensures) c.other-side.result c.other-side.ensures c.args.number c.half-half.result.now c.half-half.ensures c.in-default.ensures
+    answer_kept c.args.self.now c.args.due.lead (sym c.if-not-owes.ensures) c.other-side.result c.other-side.ensures c.args.number c.half-half.result.now c.half-half.ensures c.in_default.ensures
     c.after-tokens.result c.after-tokens.ensures
 
 pub returns : goal.returns
@@ -31,8 +31,8 @@ returns c =
     let d = c.args.due.lead in
     record {
       says = sym (ap (handed_back c.args.due) (answer_says_lem t d (sym c.if-not-owes.ensures) c.other-side.result c.other-side.ensures c.args.number c.half-half.result.now c.half-half.ensures
-          (Ok tt) c.in-default.ensures c.if-not-self.false));
-      after = c.write.ensures ∙ answer_after t d (sym c.if-not-owes.ensures) c.other-side.result c.other-side.ensures c.args.number c.half-half.result.now c.half-half.ensures c.in-default.ensures
+          (Ok tt) c.in_default.ensures c.if-not-self.false));
+      after = c.write.ensures ∙ answer_after t d (sym c.if-not-owes.ensures) c.other-side.result c.other-side.ensures c.args.number c.half-half.result.now c.half-half.ensures c.in_default.ensures
           c.after-tokens.result c.after-tokens.ensures c.if-not-self.false;
       refused = tt;
     }

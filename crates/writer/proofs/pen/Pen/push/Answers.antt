@@ -11,8 +11,8 @@ wide_is h c w x l i j = ap (λ (k : ℕ). k + x) (shift_whole h c w l i j)
 wide_small : (h c w x : ℕ) → h < 2 ^ c → c < 8 → w ≤ 8 → x < 2 ^ w → (h * 2 ^ w) % 65536 + x < 2 ^ (c + w)
 wide_small h c w x l i j k = subst (λ (n : ℕ). n < 2 ^ (c + w)) (sym (wide_is h c w x l i j)) (wide_below h c w x l k)
 
-pub invariant-of-result : goal.invariant-of-result
-invariant-of-result c =
+pub invariant_of-result : goal.invariant_of-result
+invariant_of-result c =
     let p = c.args.self in
     (c.if-count-lt8.true, (wide_small p.held p.count c.args.width c.args.value p.below p.short c.requires.narrow c.requires.fits, tt))
 
@@ -29,8 +29,8 @@ returns-then-count-lt8 c =
           (ink_keep old v s c.args.buffer.now p.at p.held p.count w x i c.requires.fits));
     }
 
-pub overflow-cast-buffer-2 : goal.overflow-cast-buffer-2
-overflow-cast-buffer-2 c =
+pub overflow_cast-buffer-2 : goal.overflow_cast-buffer-2
+overflow_cast-buffer-2 c =
     let p = c.args.self in
     let w = c.args.width in
     let x = c.args.value in

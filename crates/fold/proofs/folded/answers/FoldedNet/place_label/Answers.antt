@@ -12,4 +12,4 @@ pub returns : goal.returns
 returns g c =
     let x = c.args.self.now in
     place_label_read (g.N.Net.model x.net.now) x.groups.now (sym c.if-not-fits.ensures) x.place_groups x.place_leaders c.args.place.0
-    c.place-label-2.result x.counted.0 x.places (omega arith) c.place-label-2.ensures
+    c.place_label-2.result x.counted.0 x.places (omega arith) c.place_label-2.ensures

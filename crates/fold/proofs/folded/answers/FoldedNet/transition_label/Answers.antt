@@ -12,4 +12,4 @@ pub returns : goal.returns
 returns g c =
     let x = c.args.self.now in
     transition_label_read (g.N.Net.model x.net.now) x.groups.now (sym c.if-not-fits.ensures) x.transition_groups x.transition_leaders c.args.transition.0
-    c.transition-label-2.result x.counted.1 x.transitions (omega arith) c.transition-label-2.ensures
+    c.transition_label-2.result x.counted.1 x.transitions (omega arith) c.transition_label-2.ensures
