@@ -6,17 +6,27 @@ use Rattle.drawing.specs.declared.arrays.Arrays.{Arrays}
 
 -- what a drawing says of its arrays
 abbrev pub Held : Arrays → Type 0
-Held a = Sized a
-    × (Wide a
-    × (((a.places ≤ 64) × (a.transitions ≤ 128))
-    × (Labelled a.places (model_of a).place_label
-    × (Labelled a.transitions (model_of a).transition_label
-    × ((SmallBags a.places (model_of a).cause × SmallBags a.places (model_of a).effect)
-    × (Outside a.places a.transitions (model_of a).cause
-    × (Outside a.places a.transitions (model_of a).effect
-    × Unit {0})))))))
+Held a = record {
+  sized : Sized a;
+  wide : Wide a;
+  counts : (a.places ≤ 64) × (a.transitions ≤ 128);
+  place_labels : Labelled a.places (model_of a).place_label;
+  transition_labels : Labelled a.transitions (model_of a).transition_label;
+  sizes : SmallBags a.places (model_of a).cause × SmallBags a.places (model_of a).effect;
+  causes : Outside a.places a.transitions (model_of a).cause;
+  effects : Outside a.places a.transitions (model_of a).effect;
+}
 
 pub held : (a : Arrays) (m : Model) → Sized a → Wide a → model_of a ≡ m → Lawful m → Held a
 held a m sized wide e h =
     let l = subst Lawful (sym e) h in
-    (sized, (wide, ((l.few_places, l.few_transitions), (l.place_labels, (l.transition_labels, (l.sizes, (l.causes, (l.effects, tt))))))))
+    record {
+      sized = sized;
+      wide = wide;
+      counts = (l.few_places, l.few_transitions);
+      place_labels = l.place_labels;
+      transition_labels = l.transition_labels;
+      sizes = l.sizes;
+      causes = l.causes;
+      effects = l.effects;
+    }

@@ -6,8 +6,8 @@ use super::likeness::Likeness;
 
 // The lowest number that is alike to p.
 fn lowest_alike<L: Likeness>(by: &L, p: u8) -> u8
-    requires { p < size by.now }
-    ensures { result ≡ lowest (like by.now) (size by.now) p }
+    requires { p < L.size by.now }
+    ensures { result ≡ lowest (L.like by.now) (L.size by.now) p }
 {
     for q in 0..p {
         if by.alike(q, p) {
@@ -20,10 +20,10 @@ fn lowest_alike<L: Likeness>(by: &L, p: u8) -> u8
 /// Writes the leader of each number below n, the lowest that is alike to it, and gives the number of groups.
 /// What stands from n on is as before.
 pub fn form_groups<L: Likeness>(by: &L, n: u8, leaders: &mut [u8]) -> u8
-    requires bound { n ≡ size by.now }
+    requires bound { n ≡ L.size by.now }
     requires room { n ≤ length leaders.old }
-    ensures count { result ≡ groups (like by.now) n }
-    ensures lead { (p : ℕ) → p < n → slice_index leaders.new p ≡ lowest (like by.now) n p }
+    ensures count { result ≡ groups (L.like by.now) n }
+    ensures lead { (p : ℕ) → p < n → slice_index leaders.new p ≡ lowest (L.like by.now) n p }
     ensures past { (p : ℕ) → n ≤ p → slice_index leaders.new p ≡ slice_index leaders.old p }
 {
     let mut count = 0;

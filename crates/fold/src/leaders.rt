@@ -8,11 +8,11 @@ use super::likeness::Likeness;
 
 /// Lists the lowest number of each group, in order, and gives the number of groups.
 pub fn list_leaders<L: Likeness>(by: &L, n: u8, listed: &mut [u8]) -> u8
-    requires bound { n ≡ size by.now }
+    requires bound { n ≡ L.size by.now }
     requires few { n ≤ 128 }
     requires room { n ≤ length listed.old }
-    ensures count { result ≡ groups (like by.now) n }
-    ensures lists { Lists (like by.now) n result listed.new }
+    ensures count { result ≡ groups (L.like by.now) n }
+    ensures lists { Lists (L.like by.now) n result listed.new }
 {
     let mut leaders = [0; 128];
     form_groups(by, n, &mut leaders);

@@ -12,7 +12,7 @@ small i = all_get_d_any (16 ∷ 0 ∷ 0 ∷ []) (omega arith, (omega arith, (ome
 
 pub invariant_of-result : goal.invariant_of-result
 unfolding sheet_refusal all_below spelt first field_at
-invariant_of-result c = (refl, (small, ((refl, refl), tt)))
+invariant_of-result c = record { lawful = refl; octets = small; counted = (refl, refl) }
 
 pub returns : goal.returns
 unfolding sheet_refusal all_below spelt first field_at

@@ -14,7 +14,7 @@ wide_small h c w x l i j k = subst (λ (n : ℕ). n < 2 ^ (c + w)) (sym (wide_is
 pub invariant_of-result : goal.invariant_of-result
 invariant_of-result c =
     let p = c.args.self in
-    (c.if-count-lt8.true, (wide_small p.held p.count c.args.width c.args.value p.below p.short c.requires.narrow c.requires.fits, tt))
+    record { short = c.if-count-lt8.true; below = wide_small p.held p.count c.args.width c.args.value p.below p.short c.requires.narrow c.requires.fits }
 
 pub returns-then-count-lt8 : goal.returns-then-count-lt8
 unfolding size
