@@ -12,7 +12,7 @@ use writer::write::write;
 fn the_empty_net(rt: HostRuntime) {
     let mut buffer = [0xAAu8; 16627];
     assert_eq!(rt; write(&Drawing::new(), &mut buffer), Ok(3));
-    assert_eq!(rt; &buffer[0..4], &[0x10, 0x00, 0x00, 0xAA]);
+    assert_eq!(rt; &buffer[0..4], [0x10, 0x00, 0x00, 0xAA].as_slice());
 }
 
 #[test]
@@ -25,7 +25,7 @@ fn one_place_and_one_transition(rt: HostRuntime) -> Result<(), Fail> {
     assert_eq!(rt; write(&drawing, &mut buffer), Ok(7));
     assert_eq!(rt;
         &buffer[0..8],
-        &[0x10, 0x20, 0x20, 0x08, 0x0A, 0x04, 0x00, 0xAA]
+        [0x10, 0x20, 0x20, 0x08, 0x0A, 0x04, 0x00, 0xAA].as_slice()
     );
     Ok(())
 }
@@ -76,5 +76,5 @@ fn a_refused_sheet_leaves_the_reader(rt: HostRuntime) -> Result<(), Fail> {
 fn a_short_buffer_is_left(rt: HostRuntime) {
     let mut buffer = [0xAAu8; 16626];
     assert!(rt; write(&Drawing::new(), &mut buffer).is_err());
-    assert_eq!(rt; &buffer[0..3], &[0xAA, 0xAA, 0xAA]);
+    assert_eq!(rt; &buffer[0..3], [0xAA, 0xAA, 0xAA].as_slice());
 }
