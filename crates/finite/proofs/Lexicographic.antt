@@ -1,6 +1,6 @@
 -- The lexicographic order is a total order.
-use Rattle.std.proofs.Common.{◌≡◌, ℕ, ◌<◌, ◌≤◌, Bool, true, false, not, ◌&&◌, ◌||◌, eqb, ltb, ◌⊎◌, List, [], ◌∷◌, ◌++◌, sym, refl, ap, ◌∙◌, subst, ap₂, inl, inr, ⊎_elim, arith}
-use Rattle.std.proofs.lemmas.Bool.{cases_order, cases_Bool, both_ways, or_cases, and_parts, ltb-true, eqb-true, lt-ltb, le-ltb, eq-eqb, ne_eqb, or_left, or_right, and_from, not-true, not_from_false, not_from_true, not-false, true≢false, false≢true}
+use Rattle.std.proofs.Common.{◌≡◌, ℕ, ◌<◌, Bool, true, false, ◌&&◌, eqb, ltb, ◌⊎◌, List, [], ◌∷◌, ◌++◌, sym, refl, subst, ap₂, inl, inr, ⊎_elim, arith}
+use Rattle.std.proofs.lemmas.Bool.{cases_order, both_ways, or_cases, and_parts, ltb-true, eqb-true, lt-ltb, le-ltb, eq-eqb, or_left, or_right, and_from, not-true, not_from_false, false≢true}
 use Rattle.finite.specs.Lexicographic.{lower, at_most}
 
 -- what the test says at two lists that are not empty

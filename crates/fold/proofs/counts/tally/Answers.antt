@@ -1,7 +1,7 @@
 use Rattle.std.proofs.Common.{ℕ, ◌+◌, get_or, set, sym, refl, subst, arith}
 use Rattle.std.proofs.lemmas.List.{get_or-replicate}
 use Rattle.net.specs.Bags.{weights}
-use Rattle.fold.proofs.Tallied.{Tallied, led, tallied_none, tallied_more, tallied_all}
+use Rattle.fold.proofs.Tallied.{Tallied, tallied_none, tallied_more, tallied_all}
 use Rattle.fold.proofs.counts.tally.Goals as goal
 
 pub loop-p-init : goal.loop-p-init
