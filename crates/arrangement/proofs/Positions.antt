@@ -1,11 +1,10 @@
 -- The positions of the transitions of an arrangement are the numbers below their number, each once.
-use Rattle.std.proofs.Common.{◌≡◌, ℕ, zero, suc, ◌+◌, ◌<◌, ◌≤◌, Bool, true, false, ◌⊎◌, List, [], ◌∷◌, ◌++◌, map, length, get_or, sym, refl, ap, ◌∙◌, subst, ap₂, inl, inr, ⊎_elim, arith}
-use Rattle.std.specs.List.{range_with_len}
+use Rattle.std.proofs.Common.{◌≡◌, ℕ, suc, ◌+◌, ◌<◌, true, ◌∷◌, ◌++◌, length, sym, refl, ap, ◌∙◌, subst, ap₂, ⊎_elim, arith}
 use Rattle.std.proofs.lemmas.List.{length-append}
 use Rattle.std.proofs.lemmas.List.FromFn.{length-map-range_with_len}
 use Rattle.finite.specs.Lexicographic.{lower}
 use Rattle.finite.specs.Below.{count_below}
-use Rattle.finite.specs.Injections.{Injects, inverse, tabulate}
+use Rattle.finite.specs.Injections.{Injects, tabulate}
 use Rattle.net.specs.Model.{Model}
 use Rattle.arrangement.specs.Arrangements.{Distinct, Arrangement, row, position, standing}
 use Rattle.finite.proofs.Lexicographic.{lower_irrefl, lower_trans, lower_tri}

@@ -1,5 +1,5 @@
 -- What is proved of arrangements, end sheets and seats. Assumes nothing.
-use Rattle.std.specs.Prelude.{◌≡◌, ℕ, ◌<◌, ◌⊎◌, ◌↔◌, List, [], ◌∷◌, length}
+use Rattle.std.specs.Prelude.{◌≡◌, ℕ, ◌⊎◌, ◌↔◌, List, [], ◌∷◌, length}
 use Rattle.net.specs.Model.{Model, Lawful}
 use Rattle.bisimulation.specs.Bisimulation.{Alike}
 use Rattle.bisimulation.specs.Folding.{folded}

@@ -1,5 +1,5 @@
 -- Seats: where the group of a place or of a transition stands in the end sheet. Assumes nothing.
-use Rattle.std.specs.Prelude.{◌≡◌, ℕ, ◌<◌, ◌≤◌, Bool, nat_eq}
+use Rattle.std.specs.Prelude.{◌≡◌, ℕ, ◌<◌, ◌≤◌, nat_eq}
 use Rattle.net.specs.Model.{Model}
 use Rattle.bisimulation.specs.Rounds.{group_count, final}
 use Rattle.bisimulation.specs.Leaders.{group_of}

@@ -5,7 +5,7 @@ use Rattle.play.specs.declared.kinds.Side.TheVariants.{Left, Right}
 use Rattle.play.specs.declared.kinds.Sort.{Sort}
 use Rattle.play.specs.declared.kinds.Lead.{Lead}
 use Rattle.play.specs.Moves.{most_tokens, total}
-use Rattle.play.specs.States.{Sides, Board, State, closed, opened}
+use Rattle.play.specs.States.{State, closed, opened}
 use Rattle.play.specs.Calls.{Call, lead_says, led, answer_says, withdraw_says, withdrawn, run}
 use Rattle.play.specs.Shows.{tokens_says, fires_says}
 
