@@ -1,4 +1,4 @@
-use Rattle.std.proofs.Common.{true, false, sym}
+use Rattle.std.proofs.Common.{sym}
 use Rattle.std.proofs.lemmas.Bool.{true≢false, false≢true}
 use Rattle.search.proofs.Comparing.{lower_apart}
 use Rattle.search.proofs.rows.same_row.Goals as goal
