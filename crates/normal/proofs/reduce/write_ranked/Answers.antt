@@ -7,7 +7,7 @@ use Rattle.normal.proofs.reduce.write_ranked.Goals as goal
 pub invariant_of-ordered : goal.invariant_of-ordered
 invariant_of-ordered c =
     let permutes = c.requires.ranked.arranges.permutes in
-    ((c.requires.ranked.places_long, c.requires.ranked.transitions_long), (permutes.lands, (inverse_left _ _ permutes, tt)))
+    record { sized = (c.requires.ranked.places_long, c.requires.ranked.transitions_long); lands = permutes.lands; back = inverse_left _ _ permutes }
 
 pub returns : goal.returns
 returns c = record {

@@ -10,7 +10,7 @@ use Rattle.play.proofs.Tokens.{held_is}
 use Rattle.table.proofs.half.Half.new.Goals as goal
 
 pub invariant_of-result : goal.invariant_of-result
-invariant_of-result c = (omega (arith, sum_zero (drawn c.args.net).places _ (λ x l. zero_list 64 x)), tt)
+invariant_of-result c = record { room = omega (arith, sum_zero (drawn c.args.net).places _ (λ x l. zero_list 64 x)) }
 
 pub returns : goal.returns
 returns c =

@@ -83,16 +83,15 @@ invariant_of-self g c =
     let ok = both_accepted l r c.args.left_buffer.now c.args.right_buffer.now _ said in
     let front = sheet_front l c.args.left_buffer.now _ ok.0 _ c.reduce_seated-on_left.ensures.after in
     let other = sheet_front r c.args.right_buffer.now _ ok.1 _ c.reduce_seated-on_right.ensures.after in
-    let same = (bytes_eq-Decides _ _).0 (sym (c.same_sheet.ensures ∙ ap₂ bytes_eq front other) ∙ c.if-not-same_sheet.false) in (
-      opened_kept l r (g.L.Net.lawful c.args.left.now) (g.R.Net.lawful c.args.right.now)
+    let same = (bytes_eq-Decides _ _).0 (sym (c.same_sheet.ensures ∙ ap₂ bytes_eq front other) ∙ c.if-not-same_sheet.false) in record {
+      kept = opened_kept l r (g.L.Net.lawful c.args.left.now) (g.R.Net.lawful c.args.right.now)
           c.reduce_seated-on_left.new.seats c.reduce_seated-on_right.new.seats
           (given_ok _ _ _ _ (c.reduce_seated-on_left.ensures.says ∙ ok.0) c.reduce_seated-on_left.ensures.seats)
           (given_ok _ _ _ _ (c.reduce_seated-on_right.ensures.says ∙ ok.1) c.reduce_seated-on_right.ensures.seats)
           same c.new.result c.new-2.result
           (record { seated = c.new.ensures.seated ∙ ap (λ (m : Model). seated_by m c.reduce_seated-on_left.new.seats) c.copy_of.ensures; tokens = c.new.ensures.bare ∙ ap bare c.copy_of.ensures })
-          (record { seated = c.new-2.ensures.seated ∙ ap (λ (m : Model). seated_by m c.reduce_seated-on_right.new.seats) c.copy_of-2.ensures; tokens = c.new-2.ensures.bare ∙ ap bare c.copy_of-2.ensures }),
-      tt,
-    )
+          (record { seated = c.new-2.ensures.seated ∙ ap (λ (m : Model). seated_by m c.reduce_seated-on_right.new.seats) c.copy_of-2.ensures; tokens = c.new-2.ensures.bare ∙ ap bare c.copy_of-2.ensures });
+    }
 
 pub returns : goal.returns
 returns g c =
