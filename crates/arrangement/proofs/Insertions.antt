@@ -1,6 +1,6 @@
 -- Lists with one number put in, and that number taken out again.
 use Rattle.std.proofs.Common.{◌≡◌, ℕ, suc, ◌+◌, ◌<◌, ◌≤◌, Bool, false, cond, eqb, leb, ◌⊎◌, List, [], ◌∷◌, map, length, sym, refl, ap, ◌∙◌, subst, inl, inr, ⊎_elim, arith}
-use Rattle.std.specs.List.{AllByRecursion as All}
+use Rattle.std.specs.List.{AllByRecursion}
 use Rattle.std.proofs.lemmas.List.{length-map}
 use Rattle.std.proofs.ByRecursion.{All-weaker}
 use Rattle.std.proofs.lemmas.Bool.{cases_eq, cases_order, eq-eqb, ne_eqb, le-leb, lt-leb, leb-true, cond-true, cond-false}
@@ -25,7 +25,7 @@ removed p (x ∷ xs) = cond (eqb x p) xs (x ∷ removed p xs)
 -- f does not fall along the list
 abbrev pub Upward : (ℕ → ℕ) → List ℕ → Type 0
 Upward f [] = Unit {0}
-Upward f (x ∷ xs) = All (λ y. f x ≤ f y) xs × Upward f xs
+Upward f (x ∷ xs) = AllByRecursion (λ y. f x ≤ f y) xs × Upward f xs
 
 -- ys is xs with p put in at one place
 pub data Put (p : ℕ) : List ℕ → List ℕ → Type 0 where
@@ -64,11 +64,11 @@ inserted_put f p (x ∷ xs) ys h = step (inserted_put f p xs) (inserted_cases f 
     step ih (inl r) = subst (Put p (x ∷ xs)) (sym r.1) here
     step ih (inr r) = subst (Put p (x ∷ xs)) (sym r.1.2) (there (ih r.1.0 r.1.1))
 
-all_put : {p : ℕ} {xs ys : List ℕ} (P : ℕ → Type 0) → Put p xs ys → P p → All P xs → All P ys
+all_put : {p : ℕ} {xs ys : List ℕ} (P : ℕ → Type 0) → Put p xs ys → P p → AllByRecursion P xs → AllByRecursion P ys
 all_put P here h a = (h, a)
 all_put P (there r) h a = (a.0, all_put P r h a.1)
 
-all_unput : {p : ℕ} {xs ys : List ℕ} (P : ℕ → Type 0) → Put p xs ys → All P ys → P p × All P xs
+all_unput : {p : ℕ} {xs ys : List ℕ} (P : ℕ → Type 0) → Put p xs ys → AllByRecursion P ys → P p × AllByRecursion P xs
 all_unput P here a = a
 all_unput P (there r) a = let s = all_unput P r a.1 in (s.0, (a.0, s.1))
 
@@ -99,7 +99,7 @@ unfolding passing
 passing_put q here = refl
 passing_put q (there r) = omega (arith, passing_put q r)
 
-passing_none : (q : ℕ → Bool) (xs : List ℕ) → All (λ x. q x ≡ false) xs → passing q xs ≡ 0
+passing_none : (q : ℕ → Bool) (xs : List ℕ) → AllByRecursion (λ x. q x ≡ false) xs → passing q xs ≡ 0
 unfolding passing
 passing_none q [] a = refl
 passing_none q (x ∷ xs) a = rw a.0 (omega (arith, passing_none q xs a.1))

@@ -1,6 +1,6 @@
 -- What stands in a list, lists with no element twice, and the least of some lists.
 use Rattle.std.proofs.Common.{◌≡◌, ℕ, ◌+◌, ◌*◌, Bool, true, false, cond, ◌⊎◌, List, [], ◌∷◌, ◌++◌, map, length, sym, refl, ap, ◌∙◌, subst, ap₂, inl, inr, ⊎_elim, suc-mul, arith}
-use Rattle.std.specs.List.{flat_map, AllByRecursion as All}
+use Rattle.std.specs.List.{flat_map, AllByRecursion}
 use Rattle.std.proofs.lemmas.List.{length-append}
 use Rattle.std.proofs.lemmas.Bool.{both_ways, cases_Bool, cond-true, cond-false, false≢true}
 use Rattle.finite.specs.Lexicographic.{lower}
@@ -23,12 +23,12 @@ module _ {X : Type 0} where
   in_append x (y ∷ xs) ys (inl e) = inl (inl e)
   in_append x (y ∷ xs) ys (inr h) = ⊎_elim (λ k. inl (inr k)) (λ k. inr k) (in_append x xs ys h)
 
-  pub all_in : (P : X → Type 0) (xs : List X) (x : X) → All P xs → In x xs → P x
+  pub all_in : (P : X → Type 0) (xs : List X) (x : X) → AllByRecursion P xs → In x xs → P x
   all_in P [] x a h = absurd h
   all_in P (y ∷ xs) x a (inl e) = subst P (sym e) a.0
   all_in P (y ∷ xs) x a (inr h) = all_in P xs x a.1 h
 
-  pub all_from_in : (P : X → Type 0) (xs : List X) → ((x : X) → In x xs → P x) → All P xs
+  pub all_from_in : (P : X → Type 0) (xs : List X) → ((x : X) → In x xs → P x) → AllByRecursion P xs
   all_from_in P [] h = tt
   all_from_in P (x ∷ xs) h = (h x (inl refl), all_from_in P xs (λ y k. h y (inr k)))
 
@@ -73,7 +73,7 @@ module _ {X Y : Type 0} where
   in_joined_cases f y (x ∷ xs) h = ⊎_elim (λ k. (x, inl refl, k)) (λ k. let r = in_joined_cases f y xs k in (r.0, inr r.1, r.2)) (in_append y (f x) (flat_map f xs) h)
 
   -- back tells from which part an element comes
-  pub apart_joined : (f : X → List Y) (back : Y → X) (xs : List X) → Apart xs → All (λ x. Apart (f x)) xs → All (λ x. (y : Y) → In y (f x) → back y ≡ x) xs → Apart (flat_map f xs)
+  pub apart_joined : (f : X → List Y) (back : Y → X) (xs : List X) → Apart xs → AllByRecursion (λ x. Apart (f x)) xs → AllByRecursion (λ x. (y : Y) → In y (f x) → back y ≡ x) xs → Apart (flat_map f xs)
   apart_joined f back [] a b c = tt
   apart_joined f back (x ∷ xs) a b c =
       apart_append (f x) (flat_map f xs) b.0 (apart_joined f back xs a.1 b.1 c.1)
@@ -82,7 +82,7 @@ module _ {X Y : Type 0} where
       let e : back y ≡ r.0 = all_in (λ x. (y : Y) → In y (f x) → back y ≡ x) xs r.0 c.1 r.1 y r.2 in
       a.0 (subst (λ z. In z xs) (sym e ∙ c.0 y h) r.1))
 
-  pub length_joined : (f : X → List Y) (k : ℕ) (xs : List X) → All (λ x. length (f x) ≡ k) xs → length (flat_map f xs) ≡ length xs * k
+  pub length_joined : (f : X → List Y) (k : ℕ) (xs : List X) → AllByRecursion (λ x. length (f x) ≡ k) xs → length (flat_map f xs) ≡ length xs * k
   length_joined f k [] a = omega arith
   length_joined f k (x ∷ xs) a =
       let ih : length (flat_map f xs) ≡ length xs * k = length_joined f k xs a.1 in

@@ -1,7 +1,7 @@
 -- Bytes and the numbers that they spell.
 use Rattle.std.proofs.Common.{◌≡◌, ℕ, zero, suc, ◌+◌, ◌*◌, ◌/◌, ◌%◌, ◌^◌, ◌<◌, ◌≤◌, List, [], ◌∷◌, ◌++◌, length, get_or, take, sym, refl, ap, ◌∙◌, subst, ap₂, add-one, arith}
 use native.Mathlib.Nat.{mod-one}
-use Rattle.std.specs.List.{AllByRecursion as All}
+use Rattle.std.specs.List.{AllByRecursion}
 use Rattle.std.proofs.lemmas.Nat.{mod_below, mod-pow-add, div-mul-add, mod-mul-add}
 use Rattle.std.proofs.lemmas.List.{length_push, take_more, map-append, take_all}
 use Rattle.std.proofs.ByRecursion.{All-get_or}
@@ -13,7 +13,7 @@ unfolding size
 size_octets [] = refl
 size_octets (b ∷ bs) = omega (arith, size_octets bs)
 
-pub fit_octets : (bs : List ℕ) → All (λ b. b < 256) bs → Fit (octets bs)
+pub fit_octets : (bs : List ℕ) → AllByRecursion (λ b. b < 256) bs → Fit (octets bs)
 fit_octets [] h = tt
 fit_octets (b ∷ bs) h = (h.0, fit_octets bs h.1)
 
@@ -25,7 +25,7 @@ num_append cs bs =
 pub num_push : (bs : List ℕ) (b : ℕ) → num (bs ++ b ∷ []) ≡ num bs * 256 + b
 num_push bs b = ap number (map-append (λ (b : ℕ). (8, b)) bs (b ∷ [])) ∙ spelt_push 0 (octets bs) 8 b
 
-pub num_below : (bs : List ℕ) → All (λ b. b < 256) bs → num bs < 2 ^ (8 * length bs)
+pub num_below : (bs : List ℕ) → AllByRecursion (λ b. b < 256) bs → num bs < 2 ^ (8 * length bs)
 num_below bs h = subst (λ (k : ℕ). num bs < 2 ^ k) (size_octets bs) (number_below (octets bs) (fit_octets bs h))
 
 pub length_bytes : (n v : ℕ) → length (bytes_of n v) ≡ n
@@ -37,11 +37,11 @@ pub bytes_more : (n v b : ℕ) → b < 256 → bytes_of (suc n) (v * 256 + b) �
 unfolding bytes_of
 bytes_more n v b h = ap₂ (λ (x y : ℕ). bytes_of n x ++ y ∷ []) (div-mul-add v 256 b h) (mod-mul-add v 256 b h)
 
-all_snoc : (P : ℕ → Type 0) (xs : List ℕ) (x : ℕ) → All P xs → P x → All P (xs ++ x ∷ [])
+all_snoc : (P : ℕ → Type 0) (xs : List ℕ) (x : ℕ) → AllByRecursion P xs → P x → AllByRecursion P (xs ++ x ∷ [])
 all_snoc P [] x h k = (k, tt)
 all_snoc P (y ∷ ys) x h k = (h.0, all_snoc P ys x h.1 k)
 
-pub bytes_small : (n v : ℕ) → All (λ b. b < 256) (bytes_of n v)
+pub bytes_small : (n v : ℕ) → AllByRecursion (λ b. b < 256) (bytes_of n v)
 unfolding bytes_of
 bytes_small zero v = tt
 bytes_small (suc n) v = all_snoc (λ b. b < 256) (bytes_of n (v / 256)) (v % 256) (bytes_small n (v / 256)) (mod_below v 256 (omega arith))
@@ -56,7 +56,7 @@ num_bytes (suc n) v =
     ∙ ap (λ (k : ℕ). v % 2 ^ k) (omega arith)
 
 -- the front of the bytes, from its number
-front_back : (bs : List ℕ) → All (λ b. b < 256) bs → (i : ℕ) → i ≤ length bs → bytes_of i (num (take i bs)) ≡ take i bs
+front_back : (bs : List ℕ) → AllByRecursion (λ b. b < 256) bs → (i : ℕ) → i ≤ length bs → bytes_of i (num (take i bs)) ≡ take i bs
 unfolding bytes_of
 front_back bs h zero l = refl
 front_back bs h (suc i) l =
@@ -67,8 +67,8 @@ front_back bs h (suc i) l =
     ∙ ap (λ (x : List ℕ). x ++ get_or bs i 0 ∷ []) (front_back bs h i (omega arith))
     ∙ sym e
   where
-    small : (bs : List ℕ) → All (λ b. b < 256) bs → (i : ℕ) → i < length bs → get_or bs i 0 < 256
+    small : (bs : List ℕ) → AllByRecursion (λ b. b < 256) bs → (i : ℕ) → i < length bs → get_or bs i 0 < 256
     small bs h i l = All-get_or (λ b. b < 256) bs i 0 l h
 
-pub bytes_back : (bs : List ℕ) → All (λ b. b < 256) bs → bytes_of (length bs) (num bs) ≡ bs
+pub bytes_back : (bs : List ℕ) → AllByRecursion (λ b. b < 256) bs → bytes_of (length bs) (num bs) ≡ bs
 bytes_back bs h = ap (λ (x : List ℕ). bytes_of (length bs) (num x)) (sym (take_all (length bs) bs (omega arith))) ∙ front_back bs h (length bs) (omega arith) ∙ take_all (length bs) bs (omega arith)

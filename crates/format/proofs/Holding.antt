@@ -1,7 +1,7 @@
 -- Fields that lie in bytes from a bit on.
 use Rattle.std.proofs.Common.{◌≡◌, ℕ, zero, suc, ◌+◌, ◌-◌, ◌*◌, ◌/◌, ◌%◌, ◌^◌, ◌<◌, ◌≤◌, List, [], ◌∷◌, ◌++◌, length, get_or, take, drop, sym, ap, ◌∙◌, subst, ap₂, ⊎_elim, div-one, arith}
 use native.Mathlib.Nat.{div-eq_of_lt, sub-zero}
-use Rattle.std.specs.List.{AllByRecursion as All}
+use Rattle.std.specs.List.{AllByRecursion}
 use Rattle.std.proofs.lemmas.Nat.{pow_pos, mod_below, shr-shr, shr_split, mod_low, shr_high}
 use Rattle.std.proofs.lemmas.List.{length-drop, take-append-drop, take_more, take_all, get_or_past}
 use Rattle.std.proofs.ByRecursion.{All-drop}
@@ -11,7 +11,7 @@ use Rattle.format.proofs.Runs.{size_append, spelt_append, spelt_from, number_bel
 use Rattle.format.proofs.Bytes.{num_append, num_push, num_below}
 
 -- the first e bits, of bytes that are bytes
-pub first_num : (bs : List ℕ) → All (λ b. b < 256) bs → (e : ℕ) → e ≤ 8 * length bs → first bs e ≡ num bs / 2 ^ (8 * length bs - e)
+pub first_num : (bs : List ℕ) → AllByRecursion (λ b. b < 256) bs → (e : ℕ) → e ≤ 8 * length bs → first bs e ≡ num bs / 2 ^ (8 * length bs - e)
 unfolding first
 first_num bs h e l = ⊎_elim inner outer (cases_lt (e / 8) (length bs))
   where
@@ -38,10 +38,10 @@ first_num bs h e l = ⊎_elim inner outer (cases_lt (e / 8) (length bs))
         let z : 8 * length bs - e ≡ 0 = omega arith in
         ap₂ (λ (x y : ℕ). x / 2 ^ y) x r ∙ shr_high (num bs) 8 0 (omega arith) ∙ sym (ap (λ (y : ℕ). num bs / 2 ^ y) z ∙ div-one (num bs))
 
-pub first_none : (bs : List ℕ) → All (λ b. b < 256) bs → first bs 0 ≡ 0
+pub first_none : (bs : List ℕ) → AllByRecursion (λ b. b < 256) bs → first bs 0 ≡ 0
 first_none bs h = first_num bs h 0 (omega arith) ∙ ap (λ (k : ℕ). num bs / 2 ^ k) (sub-zero (8 * length bs)) ∙ div-eq_of_lt (num_below bs h)
 
-pub first_more : (bs : List ℕ) → All (λ b. b < 256) bs → (o w : ℕ) → o + w ≤ 8 * length bs → first bs (o + w) ≡ first bs o * 2 ^ w + field_at bs o w
+pub first_more : (bs : List ℕ) → AllByRecursion (λ b. b < 256) bs → (o w : ℕ) → o + w ≤ 8 * length bs → first bs (o + w) ≡ first bs o * 2 ^ w + field_at bs o w
 unfolding field_at
 first_more bs h o w l =
     let x = first bs (o + w) in
@@ -63,7 +63,7 @@ holds_join bs o fs gs x y =
     let e : o + size fs + size gs ≡ o + size (fs ++ gs) = omega (arith, size_append fs gs) in
     spelt_append (first bs o) fs gs ∙ ap (λ (a : ℕ). spelt a gs) x ∙ y ∙ ap (first bs) e
 
-module _ (bs : List ℕ) (small : All (λ b. b < 256) bs) where
+module _ (bs : List ℕ) (small : AllByRecursion (λ b. b < 256) bs) where
   -- the bits before are those of fewer bits
   first_less : (o w : ℕ) → o + w ≤ 8 * length bs → first bs o ≡ first bs (o + w) / 2 ^ w
   unfolding field_at
@@ -101,7 +101,7 @@ holds_each bs o k f (suc n) s h =
     let e : o + n * k ≡ o + size (each f n) = omega (arith, size_each f k n (λ i l. s i (omega arith))) in
     holds_join bs o (each f n) (f n) (holds_each bs o k f n (λ i l. s i (omega arith)) (λ i l. h i (omega arith))) (subst (λ (x : ℕ). Holds bs x (f n)) e (h n (omega arith)))
 
-pub each_holds : (bs : List ℕ) → All (λ b. b < 256) bs → (o k : ℕ) (f : ℕ → List Field) (n : ℕ) → ((i : ℕ) → i < n → size (f i) ≡ k) → ((i : ℕ) → i < n → Fit (f i)) →
+pub each_holds : (bs : List ℕ) → AllByRecursion (λ b. b < 256) bs → (o k : ℕ) (f : ℕ → List Field) (n : ℕ) → ((i : ℕ) → i < n → size (f i) ≡ k) → ((i : ℕ) → i < n → Fit (f i)) →
     o + n * k ≤ 8 * length bs → Holds bs o (each f n) → (i : ℕ) → i < n → Holds bs (o + i * k) (f i)
 unfolding each
 each_holds bs small o k f zero s t l h i j = absurd (omega arith)

@@ -1,6 +1,6 @@
 -- The order of sheets is the order of their fields.
 use Rattle.std.proofs.Common.{◌≡◌, ℕ, zero, suc, ◌+◌, ◌*◌, ◌^◌, ◌<◌, ◌≤◌, ◌&&◌, ◌||◌, eqb, ltb, ◌⊎◌, List, [], ◌∷◌, ◌++◌, map, length, sym, refl, ap, ◌∙◌, subst, ap₂, inl, inr, ⊎_elim, arith}
-use Rattle.std.specs.List.{AllByRecursion as All}
+use Rattle.std.specs.List.{AllByRecursion}
 use Rattle.std.proofs.lemmas.Nat.{pow_pos, mul-le}
 use Rattle.std.proofs.lemmas.List.{map-append}
 use Rattle.std.proofs.lemmas.Bool.{cases_order, cases_lt, lt-ltb, le-ltb, eq-eqb, ne_eqb}
@@ -70,7 +70,7 @@ values_octets : (bs : List ℕ) → values (octets bs) ≡ bs
 values_octets [] = refl
 values_octets (b ∷ bs) = ap (λ (x : List ℕ). b ∷ x) (values_octets bs)
 
-bytes_order : (bs cs : List ℕ) → length bs ≡ length cs → All (λ b. b < 256) bs → All (λ b. b < 256) cs → lower bs cs ≡ ltb (num bs) (num cs)
+bytes_order : (bs cs : List ℕ) → length bs ≡ length cs → AllByRecursion (λ b. b < 256) bs → AllByRecursion (λ b. b < 256) cs → lower bs cs ≡ ltb (num bs) (num cs)
 bytes_order bs cs e x y =
     ap₂ lower (sym (values_octets bs)) (sym (values_octets cs)) ∙ number_order (octets bs) (octets cs) (widths_octets bs cs e) (fit_octets bs x) (fit_octets cs y)
 

@@ -1,7 +1,7 @@
 -- The net of a lawful sheet has that sheet.
 use Rattle.std.proofs.Common.{◌≡◌, ℕ, ◌+◌, ◌-◌, ◌*◌, ◌/◌, ◌%◌, ◌^◌, ◌<◌, ◌≤◌, ltb, List, [], ◌∷◌, ◌++◌, length, get_or, take, sym, refl, ap, ◌∙◌, subst, ap₂, ⊎_elim, add-zero, mul_assoc, arith}
 use native.Mathlib.Nat.{mul-add-mod_self_right}
-use Rattle.std.specs.List.{AllByRecursion as All}
+use Rattle.std.specs.List.{AllByRecursion}
 use Rattle.std.proofs.lemmas.Nat.{pow-add, shr_split}
 use Rattle.std.proofs.ByRecursion.{All-get_or, All-from_get_or}
 use Rattle.std.proofs.lemmas.List.{take_more, take_all, get_or_past}
@@ -27,7 +27,7 @@ fill_last bs f l h =
     ap (λ (k : ℕ). k % 2 ^ f) (ap num whole ∙ num_push (take i bs) b ∙ ap (λ (k : ℕ). x * k + b) p ∙ ap (λ (k : ℕ). k + b) (sym (mul_assoc x (2 ^ (8 - f)) (2 ^ f))))
     ∙ mul-add-mod_self_right (x * 2 ^ (8 - f)) (2 ^ f) b
 
-module _ (bs : List ℕ) (small : All (λ b. b < 256) bs) (s : LawfulSheet bs) where
+module _ (bs : List ℕ) (small : AllByRecursion (λ b. b < 256) bs) (s : LawfulSheet bs) where
   room : row_at (places_of bs) (transitions_of bs) ≤ 8 * length bs
   room = omega (arith, s.sized)
 
@@ -81,7 +81,7 @@ module _ (bs : List ℕ) (small : All (λ b. b < 256) bs) (s : LawfulSheet bs) w
       ∙ bytes_back bs small
 
 -- every element is a byte, by its place
-pub all_get_d_any : (xs : List ℕ) → All (λ b. b < 256) xs → (i : ℕ) → get_or xs i 0 < 256
+pub all_get_d_any : (xs : List ℕ) → AllByRecursion (λ b. b < 256) xs → (i : ℕ) → get_or xs i 0 < 256
 all_get_d_any xs h i = ⊎_elim (λ (l : i < length xs). All-get_or (λ b. b < 256) xs i 0 l h) (λ (l : length xs ≤ i). subst (λ (k : ℕ). k < 256) (sym (get_or_past xs i 0 l)) (omega arith)) (cases_lt i (length xs))
 
 pub sheet_whole : (bs : List ℕ) → ((i : ℕ) → get_or bs i 0 < 256) → sheet_refusal bs ≡ 0 → sheet_of (net_of bs) ≡ bs

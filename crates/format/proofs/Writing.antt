@@ -1,7 +1,7 @@
 -- The sheet of a lawful net is lawful, and its net is that net.
 use Rattle.std.proofs.Common.{◌≡◌, ℕ, ◌+◌, ◌-◌, ◌*◌, ◌/◌, ◌%◌, ◌^◌, ◌<◌, ◌≤◌, ltb, List, [], ◌∷◌, ◌++◌, length, get_or, sym, refl, ap, ◌∙◌, subst, ap₂, mod-eq_of_lt, arith}
 use native.Mathlib.Nat.{mul-mod_left}
-use Rattle.std.specs.List.{AllByRecursion as All}
+use Rattle.std.specs.List.{AllByRecursion}
 use Rattle.std.proofs.lemmas.Nat.{shl_below, shl-shr}
 use Rattle.std.proofs.lemmas.Bool.{cond-true, lt-ltb}
 use Rattle.finite.specs.Below.{sum_below}
@@ -40,7 +40,7 @@ module _ (m : Model) (w : Lawful m) where
 
 -- packed fields, as bytes
 module _ (fs : List Field) (fit : Fit fs) where
-  pub packed_small : All (λ b. b < 256) (packed fs)
+  pub packed_small : AllByRecursion (λ b. b < 256) (packed fs)
   unfolding packed
   packed_small = bytes_small (bytes_for (size fs)) (number fs * 2 ^ fill_for (size fs))
 
@@ -69,7 +69,7 @@ pub record Reads (bs : List ℕ) (m : Model) : Type 0 where
   pub causes : (t p : ℕ) → t < m.transitions → p < m.places → weights_from bs (row_at m.places t + 10 + 0) p ≡ m.cause t p
   pub effects : (t p : ℕ) → t < m.transitions → p < m.places → weights_from bs (row_at m.places t + 10 + 8 * m.places) p ≡ m.effect t p
 
-module _ (m : Model) (w : Lawful m) (bs : List ℕ) (small : All (λ b. b < 256) bs) (room : row_at m.places m.transitions ≤ 8 * length bs) (holds : Holds bs 0 (fields_of m)) where
+module _ (m : Model) (w : Lawful m) (bs : List ℕ) (small : AllByRecursion (λ b. b < 256) bs) (room : row_at m.places m.transitions ≤ 8 * length bs) (holds : Holds bs 0 (fields_of m)) where
   whole : size (fields_of m) ≤ 8 * length bs
   whole = omega (arith, size_fields m)
 

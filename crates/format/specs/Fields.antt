@@ -1,6 +1,6 @@
 -- Runs of bit fields, the most significant bit first, and the bytes that hold them. Assumes nothing.
 use Rattle.std.specs.Prelude.{ℕ, zero, suc, ◌+◌, ◌-◌, ◌*◌, ◌/◌, ◌%◌, ◌^◌, ◌<◌, List, [], ◌∷◌, ◌++◌, map, take, slice_index}
-use Rattle.std.specs.List.{AllByRecursion as All}
+use Rattle.std.specs.List.{AllByRecursion}
 
 -- a field: its width in bits and its value
 abbrev pub Field : Type 0
@@ -8,7 +8,7 @@ Field = ℕ × ℕ
 
 -- the value of each field fits its width
 abbrev pub Fit : List Field → Type 0
-Fit fs = All (λ f. f.1 < 2 ^ f.0) fs
+Fit fs = AllByRecursion (λ f. f.1 < 2 ^ f.0) fs
 
 -- the bits of a run of fields
 unfoldable pub size : List Field → ℕ

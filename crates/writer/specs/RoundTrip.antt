@@ -1,6 +1,6 @@
 -- The round trip between a net and its sheet. Assumes nothing.
 use Rattle.std.specs.Prelude.{◌≡◌, ℕ, ◌<◌, List}
-use Rattle.std.specs.List.{AllByRecursion as All}
+use Rattle.std.specs.List.{AllByRecursion}
 use Rattle.net.specs.Model.{Model}
 use Rattle.format.specs.Sheets.{net_of, LawfulSheet}
 
@@ -8,4 +8,4 @@ use Rattle.format.specs.Sheets.{net_of, LawfulSheet}
 pub record RoundTrip (m : Model) (bs : List ℕ) : Type 0 where
   pub lawful : LawfulSheet bs
   pub back : net_of bs ≡ m
-  pub old : (sheet : List ℕ) → All (λ b. b < 256) sheet → LawfulSheet sheet → net_of sheet ≡ m → bs ≡ sheet
+  pub old : (sheet : List ℕ) → AllByRecursion (λ b. b < 256) sheet → LawfulSheet sheet → net_of sheet ≡ m → bs ≡ sheet
