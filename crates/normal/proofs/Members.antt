@@ -1,5 +1,5 @@
 -- The leaders of a grouping are within its arrays.
-use Rattle.std.proofs.Common.{◌≡◌, ℕ, ◌<◌, ◌≤◌, Bool, List, length, ap, ◌∙◌, subst, arith}
+use Rattle.std.proofs.Common.{◌≡◌, ℕ, ◌<◌, ◌≤◌, Bool, List, length, ap, arith}
 use Rattle.bisimulation.specs.Groups.{Equivalence}
 use Rattle.bisimulation.specs.Leaders.{lowest}
 use Rattle.bisimulation.proofs.Leaders.{lowest_found}

@@ -1,43 +1,35 @@
 -- The sheet of a ranked net is the least, and the seats along the ranking are seats of the net.
-use Rattle.std.proofs.Common.{◌≡◌, ℕ, suc, ◌<◌, ◌≤◌, Bool, true, eqb, List, get_or, sym, refl, ap, ◌∙◌, subst, ap₂, arith}
+use Rattle.std.proofs.Common.{◌≡◌, ℕ, suc, ◌<◌, eqb, List, sym, refl, ap, ◌∙◌, subst, ap₂}
 use Rattle.std.proofs.lemmas.Bool.{and_from, eq-eqb, cond-true}
-use Rattle.finite.specs.Below.{count_below}
 use Rattle.finite.specs.Products.{product_below}
 use Rattle.finite.specs.Injections.{Injects, inverse}
 use Rattle.finite.proofs.Given.{given}
 use Rattle.finite.proofs.Counts.{count_same}
 use Rattle.finite.proofs.Products.{product_same}
-use Rattle.finite.proofs.Injections.{inverse_lands, inverse_right, inverse_left}
+use Rattle.finite.proofs.Injections.{inverse_left}
 use Rattle.net.specs.Model.{Model, Lawful}
-use Rattle.bisimulation.specs.Groups.{Equivalence}
 use Rattle.bisimulation.specs.Rounds.{final}
-use Rattle.bisimulation.specs.Leaders.{lowest, leads, groups, group_of}
 use Rattle.bisimulation.specs.Folding.{folded}
 use Rattle.bisimulation.proofs.Equivalences.{final_equivalences}
 use Rattle.bisimulation.proofs.FoldSame.{fold_same}
 use Rattle.bisimulation.proofs.Ranges.{same_back, equivalences_same}
-use Rattle.bisimulation.proofs.Leaders.{lowest_found}
 use Rattle.fold.specs.declared.grouping.Grouping.{Grouping}
 use Rattle.fold.specs.Divides.{Divides}
 use Rattle.fold.specs.Grouped.{groups_of}
 use Rattle.fold.specs.Layer.{folded_by}
 use Rattle.fold.proofs.Dividing.{divides_same}
 use Rattle.format.specs.Sheets.{sheet_of}
-use Rattle.arrangement.specs.Arrangements.{at, Arrangement, Distinct, ordered, arranged, standing, position}
+use Rattle.arrangement.specs.Arrangements.{at, Distinct, ordered, arranged, position}
 use Rattle.arrangement.specs.Enumeration.{arrangement_count}
-use Rattle.arrangement.specs.EndSheets.{least_sheet, end_sheet, sheet_along}
-use Rattle.arrangement.specs.Seats.{Seated, Seating, place_group, transition_group}
+use Rattle.arrangement.specs.EndSheets.{least_sheet, sheet_along}
 use Rattle.arrangement.proofs.Positions.{position_lands, standing_position, standing_lands, position_standing}
 use Rattle.arrangement.proofs.Ordered.{ordered_same}
 use Rattle.arrangement.proofs.Orders.{least_from_rows}
 use Rattle.arrangement.proofs.Canonical.{least_is}
 use Rattle.arrangement.proofs.Counting.{count_by_places}
-use Rattle.arrangement.proofs.Folds.{folded_distinct}
 use Rattle.search.specs.declared.ranking.Ranking.{Ranking}
 use Rattle.search.specs.Ranked.{Ranked}
 use Rattle.normal.specs.Counts.{choices}
-use Rattle.normal.specs.Seatings.{seated_by, group_number}
-use Rattle.normal.specs.declared.seats.Seats.{Seats}
 
 -- a net folded by its own groups at rest is its folded net
 pub own_folded : (m : Model) (g : Grouping) → Divides m.places m.transitions (final m) g → folded_by m g ≡ folded m

@@ -1,6 +1,5 @@
 -- Seats that are read off a ranking of the folded net are seats of the net.
 use Rattle.std.proofs.Common.{◌≡◌, ℕ, ◌<◌, Bool, eqb, List, sym, ap, ◌∙◌, subst, arith}
-use Rattle.finite.specs.Below.{count_below}
 use Rattle.finite.specs.Injections.{inverse}
 use Rattle.finite.proofs.Given.{given}
 use Rattle.finite.proofs.Counts.{count_same}

@@ -1,10 +1,9 @@
 -- Opening a table: the order of its refusals, the sheets in the buffers, and the table between two seated nets with one end sheet.
-use Rattle.std.proofs.Common.{◌≡◌, ℕ, ◌<◌, ◌≤◌, Bool, true, false, cond, ltb, ◌⊎◌, List, ◌++◌, length, take, drop, IsErrAnd, None, Ok, Err, Result, sym, refl, ap, ◌∙◌, subst, ap₂, subst₂, inl, inr, arith, MatchResult}
+use Rattle.std.proofs.Common.{◌≡◌, ℕ, ◌≤◌, Bool, true, false, cond, ltb, List, ◌++◌, length, take, drop, IsErrAnd, None, Ok, Err, Result, sym, refl, ap, ◌∙◌, subst, ap₂, subst₂, inl, inr, arith, MatchResult}
 use Rattle.std.specs.Str.{bytes_eq}
 use Rattle.std.proofs.lemmas.List.{take_at, length-append}
 use Rattle.std.proofs.lemmas.Bool.{cases_lt}
 use Rattle.net.specs.Model.{Model, Lawful}
-use Rattle.bisimulation.specs.Bisimulation.{Alike}
 use Rattle.format.specs.Sheets.{longest_sheet}
 use Rattle.format.specs.Sheets as sheets
 use Rattle.arrangement.specs.EndSheets.{end_sheet, arrangements}

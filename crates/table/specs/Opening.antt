@@ -1,5 +1,5 @@
 -- What opening a table says, what the table then is, and the law of opened tables. Assumes nothing.
-use Rattle.std.specs.Prelude.{◌≡◌, ℕ, ◌≤◌, Bool, cond, ◌⊎◌, ◌↔◌, List, length, Ok, Err, Result, nat_lt}
+use Rattle.std.specs.Prelude.{◌≡◌, ℕ, ◌≤◌, cond, ◌⊎◌, ◌↔◌, List, length, Ok, Err, Result, nat_lt}
 use Rattle.std.specs.Str.{bytes_eq}
 use Rattle.net.specs.Model.{Model}
 use Rattle.bisimulation.specs.Bisimulation.{Alike}

@@ -1,4 +1,4 @@
-use Rattle.std.proofs.Common.{◌≡◌, ℕ, suc, ◌≤◌, eqb}
+use Rattle.std.proofs.Common.{◌≡◌, suc, ◌≤◌, eqb}
 use Rattle.finite.specs.Below.{count_below}
 use Rattle.arrangement.specs.Arrangements.{at}
 use Rattle.normal.proofs.count.choices.Given as goal

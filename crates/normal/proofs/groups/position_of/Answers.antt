@@ -1,7 +1,6 @@
-use Rattle.std.proofs.Common.{◌≡◌, ℕ, ◌<◌, false, eqb, sym, ap, ◌∙◌, ⊎_elim, arith}
+use Rattle.std.proofs.Common.{◌≡◌, ℕ, eqb, sym, ap, ◌∙◌, ⊎_elim, arith}
 use Rattle.std.proofs.lemmas.Bool.{eq-eqb, ne_eqb, cases_eq, both_ways}
-use Rattle.finite.specs.Below.{first_below}
-use Rattle.finite.proofs.Searches.{Found, first_is, first_cases}
+use Rattle.finite.proofs.Searches.{first_is, first_cases}
 use Rattle.arrangement.specs.Arrangements.{at}
 use Rattle.normal.proofs.groups.position_of.Goals as goal
 

@@ -1,5 +1,4 @@
-use Rattle.std.proofs.Common.{◌≡◌, ◌∙◌, ap₂}
-use Rattle.net.specs.Model.{Model}
+use Rattle.std.proofs.Common.{◌∙◌, ap₂}
 use Rattle.fold.specs.declared.grouping.Grouping.{Grouping}
 use Rattle.fold.specs.Layer.{folded_by}
 use Rattle.normal.proofs.Reducing.{own_folded}

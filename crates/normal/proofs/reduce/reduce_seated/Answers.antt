@@ -1,20 +1,13 @@
-use Rattle.std.proofs.Common.{◌≡◌, ℕ, ◌<◌, ◌≤◌, List, ◌++◌, length, drop, Ok, Err, Result, sym, refl, ap, ◌∙◌, subst, ap₂, arith}
-use Rattle.finite.specs.Products.{product_below}
-use Rattle.net.specs.Model.{Model, Lawful}
-use Rattle.drawing.specs.Arrays.{model_of}
-use Rattle.drawing.specs.Drawn.{drawn}
+use Rattle.std.proofs.Common.{◌≡◌, ℕ, ◌++◌, length, drop, Ok, sym, refl, ap, ◌∙◌, subst, ap₂, arith}
+use Rattle.net.specs.Model.{Model}
 use Rattle.bisimulation.specs.Folding.{folded}
 use Rattle.bisimulation.proofs.Folded.{folded_lawful_lem}
 use Rattle.arrangement.specs.Arrangements.{Distinct}
-use Rattle.arrangement.specs.Enumeration.{arrangement_count}
 use Rattle.arrangement.specs.EndSheets.{least_sheet}
 use Rattle.arrangement.proofs.Folds.{folded_distinct}
 use Rattle.search.specs.Ranked.{Ranked}
-use Rattle.normal.specs.declared.refusal.ReduceRefusal.{ReduceRefusal}
-use Rattle.normal.specs.declared.reduction.Reduction.{Reduction}
-use Rattle.normal.specs.Counts.{choices}
 use Rattle.normal.specs.Seatings.{SeatsAlong}
-use Rattle.normal.specs.Reductions.{reduce_says, filled}
+use Rattle.normal.specs.Reductions.{filled}
 use Rattle.normal.proofs.Reducing.{choices_count}
 use Rattle.normal.proofs.Seating.{seating}
 use Rattle.normal.proofs.Says.{says_many, says_reduced, reported}

@@ -1,4 +1,4 @@
-use Rattle.std.proofs.Common.{◌≡◌, ℕ, ◌<◌, ◌≤◌, List, length, ap, ◌∙◌, subst₂, arith}
+use Rattle.std.proofs.Common.{ℕ, List, length, ap, subst₂, arith}
 use Rattle.bisimulation.specs.Rounds.{final}
 use Rattle.bisimulation.proofs.Equivalences.{final_equivalences}
 use Rattle.normal.specs.Seatings.{SeatsAlong}

@@ -1,4 +1,3 @@
-use Rattle.std.specs.Str.{bytes_eq}
 use Rattle.std.proofs.lemmas.Slice.Eq.{slice_eq-Decides, bytes_eq-Decides}
 use Rattle.finite.proofs.Tests.{same_test}
 use Rattle.normal.proofs.sheets.same_sheet.Goals as goal

@@ -1,16 +1,12 @@
-use Rattle.std.proofs.Common.{◌≡◌, ℕ, Bool, true, false, cond, List, length, take, Ok, Err, sym, refl, ap, ◌∙◌, subst, ap₂, arith, MatchResult}
+use Rattle.std.proofs.Common.{sym, refl, ap, ◌∙◌, ap₂}
 use Rattle.std.specs.Str.{bytes_eq}
 use Rattle.std.proofs.lemmas.List.{length-take-le}
 use Rattle.std.proofs.lemmas.Slice.Eq.{bytes_eq-Decides}
 use Rattle.std.proofs.lemmas.Bool.{cond-true, cond-false}
 use Rattle.net.specs.Model.{Model}
-use Rattle.normal.specs.declared.reduction.Reduction.{Reduction}
 use Rattle.normal.specs.Seatings.{seated_by}
-use Rattle.normal.specs.Reductions.{reduce_says}
 use Rattle.play.specs.Moves.{bare}
-use Rattle.table.specs.declared.refusal.OpenRefusal.TheVariants.{Differ}
-use Rattle.table.specs.Opening.{both_reduced, open_says}
-use Rattle.table.proofs.Opening.{both_said, passed_on, left_alone, sheet_inside, sheet_front, open_refused, open_reduced, both_accepted, sheets_decide, given_ok, Bare, opened_kept, opened_on}
+use Rattle.table.proofs.Opening.{both_said, passed_on, left_alone, sheet_inside, sheet_front, open_refused, open_reduced, both_accepted, sheets_decide, given_ok, opened_kept, opened_on}
 use Rattle.table.proofs.table.Table.open.Goals as goal
 
 pub returns-in_err-left_reduction : goal.returns-in_err-left_reduction
