@@ -1,7 +1,7 @@
 #!/usr/bin/env python3
 """Spells the repository's own definitions and lemmas as today's Rattle does: words in snake case.
 
-usage: python3 tools/respell.py [--list]     at the top of the repository, right after /opt/rattle's port.py, once
+usage: python3 tools/respell.py [--list]     at the top of the repository, right after the kit's port script, once
 
 A name is the repository's own if a file of specs/ or proofs/ declares it and no library outside the repository
 exports it. `groupCount` becomes `group_count`, `zero-list` becomes `zero_list`. Types keep their capitals, and so does
