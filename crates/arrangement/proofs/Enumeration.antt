@@ -30,7 +30,7 @@ count_single v (suc n) = ⊎_elim
     (λ e. omega (arith, count_stay n (λ x. eqb x v) (ne_eqb n v e), count_single v n))
     (cases_eq n v)
 
--- what holds of each list of `ordersBelow`
+-- what holds of each list of `orders_below`
 record OrderOf (f : ℕ → ℕ) (n : ℕ) (xs : List ℕ) : Type 0 where
   up : Upward f xs
   full : Full n xs

@@ -5,11 +5,11 @@ use Rattle.play.specs.declared.kinds.Side.{Side}
 use Rattle.play.specs.declared.kinds.Sort.{Sort}
 use Rattle.play.specs.declared.kinds.Lead.{Lead}
 use Rattle.play.specs.declared.refusals.LeadRefusal.{LeadRefusal}
-use Rattle.play.specs.declared.refusals.LeadRefusal.TheVariants as leadRefusal
+use Rattle.play.specs.declared.refusals.LeadRefusal.TheVariants as lead_refusal
 use Rattle.play.specs.declared.refusals.AnswerRefusal.{AnswerRefusal}
-use Rattle.play.specs.declared.refusals.AnswerRefusal.TheVariants as answerRefusal
+use Rattle.play.specs.declared.refusals.AnswerRefusal.TheVariants as answer_refusal
 use Rattle.play.specs.declared.refusals.WithdrawRefusal.{WithdrawRefusal}
-use Rattle.play.specs.declared.refusals.WithdrawRefusal.TheVariants as withdrawRefusal
+use Rattle.play.specs.declared.refusals.WithdrawRefusal.TheVariants as withdraw_refusal
 use Rattle.play.specs.Kinds.{across, lead_of}
 use Rattle.play.specs.Moves.{most_tokens, numbers, seat_of, covers, moved, undone, total}
 use Rattle.play.specs.States.{Sides, Board, State, closed, opened, seated, marking, with_marking, owes}
@@ -28,27 +28,27 @@ abbrev pub move_says : Seated → List ℕ → Sort → ℕ → Result ℕ LeadR
 move_says s tokens k i =
     cond (nat_lt i (numbers s.net k))
     (cond (covers s.net tokens k i)
-    (cond (nat_lt most_tokens (total s.net (moved s.net tokens k i))) (Err leadRefusal.TooManyTokens) (Ok (seat_of s k i)))
-    (Err leadRefusal.TokensLacking))
-    (Err leadRefusal.NoSuchNumber)
+    (cond (nat_lt most_tokens (total s.net (moved s.net tokens k i))) (Err lead_refusal.TooManyTokens) (Ok (seat_of s k i)))
+    (Err lead_refusal.TokensLacking))
+    (Err lead_refusal.NoSuchNumber)
 
 -- an answer's move on one side, at the seat that was led with
 abbrev pub reply_says : Seated → List ℕ → Sort → ℕ → ℕ → Result (Unit {0}) AnswerRefusal
 reply_says s tokens k seat i =
     cond (nat_lt i (numbers s.net k))
     (cond (seat_of s k i == seat)
-    (cond (covers s.net tokens k i) (Ok tt) (Err answerRefusal.TokensLacking))
-    (Err answerRefusal.OtherSeat))
-    (Err answerRefusal.NoSuchNumber)
+    (cond (covers s.net tokens k i) (Ok tt) (Err answer_refusal.TokensLacking))
+    (Err answer_refusal.OtherSeat))
+    (Err answer_refusal.NoSuchNumber)
 
 -- put, take and fire: what is recorded of the lead, and the table after it
 abbrev pub lead_by : Option Lead → Result ℕ LeadRefusal → Side → Sort → ℕ → Result Lead LeadRefusal
-lead_by (Some d) _ w k i = Err leadRefusal.AnswerOwed
+lead_by (Some d) _ w k i = Err lead_refusal.AnswerOwed
 lead_by None (Err e) w k i = Err e
 lead_by None (Ok seat) w k i = Ok (lead_of w k i seat)
 
 abbrev pub lead_says : State → Side → Sort → ℕ → Result Lead LeadRefusal
-lead_says closed w k i = Err leadRefusal.Closed
+lead_says closed w k i = Err lead_refusal.Closed
 lead_says (opened sides b) w k i = lead_by b.owed (move_says (seated sides w) (marking b w) k i) w k i
 
 abbrev pub led_to : Sides → Board → Side → Sort → ℕ → Result Lead LeadRefusal → Board
@@ -61,11 +61,11 @@ led (opened sides b) w k i = opened sides (led_to sides b w k i (lead_says (open
 
 -- answer: the same sort of move on the other side, and nothing is owed
 abbrev pub answer_says : State → Lead → ℕ → Result (Unit {0}) AnswerRefusal
-answer_says closed d i = Err answerRefusal.Closed
+answer_says closed d i = Err answer_refusal.Closed
 answer_says (opened sides b) d i =
     cond (owes b.owed d)
     (reply_says (seated sides (across d.side)) (marking b (across d.side)) d.sort d.seat.0 i)
-    (Err answerRefusal.NotOwed)
+    (Err answer_refusal.NotOwed)
 
 abbrev pub answered : State → Lead → ℕ → State
 answered closed d i = closed
@@ -75,8 +75,8 @@ answered (opened sides b) d i =
 
 -- withdraw: the leading side is put back, and nothing is owed
 abbrev pub withdraw_says : State → Lead → Result (Unit {0}) WithdrawRefusal
-withdraw_says closed d = Err withdrawRefusal.Closed
-withdraw_says (opened sides b) d = cond (owes b.owed d) (Ok tt) (Err withdrawRefusal.NotOwed)
+withdraw_says closed d = Err withdraw_refusal.Closed
+withdraw_says (opened sides b) d = cond (owes b.owed d) (Ok tt) (Err withdraw_refusal.NotOwed)
 
 abbrev pub withdrawn : State → Lead → State
 withdrawn closed d = closed
