@@ -4,8 +4,6 @@
 ghost use Rattle.arrangement.specs.Laws.{ArrangementLaw};
 
 // The law of arrangements, as the contract of a function: what is proved of the arrangements of every net, of end sheets and of seats.
-pub fn arrangements_stand() -> u8
+pub fn arrangements_stand()
     ensures { ArrangementLaw }
-{
-    0
-}
+{}

@@ -1,94 +1,92 @@
--- One weight of a drawing is replaced: the row of its bag, with the weight written, goes back into its table.
-use Rattle.std.proofs.Common.{◌≡◌, ℕ, ◌<◌, ◌≤◌, List, length, get_or, set, sum, sym, refl, ◌∙◌, inl, arith}
-use mathlib.Core.Path.{fun_ext}
-use Rattle.std.proofs.lemmas.List.{length-set}
+-- One weight of a net is replaced: the row of its transition, with the weight written, goes back among the rows.
+use Rattle.std.proofs.Common.{◌≡◌, ℕ, ◌<◌, ◌≤◌, List, length, get_or, set, sum, sym, refl, ap, subst, ⊎_elim, inl, ◌∙◌, arith}
+use Rattle.std.proofs.lemmas.Bool.{cases_eq}
 use Rattle.std.proofs.lemmas.Bool.Decides.{nat_tests}
+use Rattle.std.proofs.lemmas.List.{length-set, get_or-set_same, get_or-set_other}
+use Rattle.std.specs.Prelude.{slice_index}
 use Rattle.finite.specs.Below.{sum_below}
 use Rattle.finite.proofs.Sums.{list_sum_of}
-use Rattle.net.specs.Model.{Model}
+use Rattle.net.specs.Model.{Model, Lawful}
 use Rattle.net.specs.Bags.{weights}
-use Rattle.drawing.specs.Arrays.{model_of, Sized, Wide}
-use Rattle.drawing.specs.Drawn.{drawn}
-use Rattle.drawing.specs.Edits.{reweighed, with_weight}
-use Rattle.drawing.specs.Refusals.{size_of, weight_refusal}
 use Rattle.net.specs.declared.bag.Bag.{Bag}
 use Rattle.net.specs.declared.bag.Bag.TheVariants.{Cause, Effect}
+use Rattle.drawing.specs.Arrays.{bag_of, row_with, row_or_blank, Shows}
+use Rattle.drawing.specs.Edits.{with_weight}
+use Rattle.drawing.specs.Refusals.{size_of, weight_refusal}
+use Rattle.drawing.specs.Drawn.{drawn, drawn_lawful}
+use Rattle.drawing.specs.declared.arrays.Row.{Row}
 use Rattle.drawing.specs.declared.Drawing.{Drawing}
-use Rattle.drawing.specs.declared.arrays.Arrays.{Arrays}
-use Rattle.net.proofs.Agrees.{same_answers}
-use Rattle.drawing.proofs.Edited.{reweighed_outside, with_weight_lawful}
-use Rattle.drawing.proofs.Held.{Held, held}
-use Rattle.drawing.specs.Drawn.{drawn_lawful}
-use Rattle.net.proofs.Weights.{weights_outside}
-use Rattle.drawing.proofs.Writes.{set_wide, row_read, table_read}
+use Rattle.drawing.proofs.Edited.{set_read, with_weight_outside, with_weight_lawful}
+use Rattle.drawing.proofs.Held.{Holds, held, held_net, net_in}
 
--- the arrays with another row t in one of the tables
-abbrev pub with_row : Bag → Arrays → ℕ → List ℕ → Arrays
-with_row Cause a t row = record {
-  places = a.places;
-  transitions = a.transitions;
-  place_labels = a.place_labels;
-  transition_labels = a.transition_labels;
-  causes = set a.causes t row;
-  effects = a.effects;
-}
-with_row Effect a t row = record {
-  places = a.places;
-  transitions = a.transitions;
-  place_labels = a.place_labels;
-  transition_labels = a.transition_labels;
-  causes = a.causes;
-  effects = set a.effects t row;
-}
+shown_weights : (bag : Bag) (m : Model) (t : ℕ) (r : Row) → Shows m t r → (q : ℕ) → slice_index (bag_of bag r) q ≡ weights bag m t q
+shown_weights Cause m t r h = h.cause
+shown_weights Effect m t r h = h.effect
 
-with_row_sized : (bag : Bag) (a : Arrays) (t : ℕ) (row : List ℕ) → Sized a → Sized (with_row bag a t row)
-with_row_sized Cause a t row h = (h.0, h.1, length-set a.causes t row ∙ h.2, h.3)
-with_row_sized Effect a t row h = (h.0, h.1, h.2, length-set a.effects t row ∙ h.3)
+-- the row that is written shows the net with the weight
+row_shows : (bag : Bag) (m : Model) (t p w : ℕ) (r : Row) → p < length (bag_of bag r) → Shows m t r → Shows (with_weight bag m t p w) t (row_with bag r p w)
+row_shows Cause m t p w r l h = record { label = h.label; cause = λ q. set_read r.cause p w q l ∙ grind (arith, nat_tests, h.cause q); effect = h.effect }
+row_shows Effect m t p w r l h = record { label = h.label; cause = h.cause; effect = λ q. set_read r.effect p w q l ∙ grind (arith, nat_tests, h.effect q) }
 
-with_row_wide : (bag : Bag) (a : Arrays) (t : ℕ) (row : List ℕ) → t < 128 → length row ≡ 64 → Sized a → Wide a → Wide (with_row bag a t row)
-with_row_wide Cause a t row l long sized h = (set_wide a.causes t (omega (arith, sized.2)) row 128 64 long h.0, h.1)
-with_row_wide Effect a t row l long sized h = (h.0, set_wide a.effects t (omega (arith, sized.3)) row 128 64 long h.1)
+-- the other rows show it as they are
+other_shows : (bag : Bag) (m : Model) (t p w u : ℕ) (r : Row) → (u ≡ t → ⊥) → Shows m u r → Shows (with_weight bag m t p w) u r
+other_shows Cause m t p w u r ne h = record { label = h.label; cause = λ q. grind (arith, nat_tests, h.cause q); effect = h.effect }
+other_shows Effect m t p w u r ne h = record { label = h.label; cause = h.cause; effect = λ q. grind (arith, nat_tests, h.effect q) }
 
-with_row_model : (bag : Bag) (a : Arrays) (t p w : ℕ) (row : List ℕ) → t < 128 → p < length row → Sized a →
-    ((q : ℕ) → get_or row q 0 ≡ weights bag (model_of a) t q) → model_of (with_row bag a t (set row p w)) ≡ with_weight bag (model_of a) t p w
-with_row_model Cause a t p w row l h sized reads =
-    same_answers _ _ refl refl refl refl (fun_ext (λ u. fun_ext (table_read a.causes t (omega (arith, sized.2)) row p w h reads u))) refl
-with_row_model Effect a t p w row l h sized reads =
-    same_answers _ _ refl refl refl refl refl (fun_ext (λ u. fun_ext (table_read a.effects t (omega (arith, sized.3)) row p w h reads u)))
-
-size_with_weight : (bag : Bag) (m : Model) (t p w : ℕ) → size_of bag (with_weight bag m t p w) t ≡ sum_below m.places (reweighed (weights bag m) t p w t)
+size_with_weight : (bag : Bag) (m : Model) (t p w : ℕ) →
+    size_of bag (with_weight bag m t p w) t ≡ sum_below m.places (weights bag (with_weight bag m t p w) t)
 size_with_weight Cause m t p w = refl
 size_with_weight Effect m t p w = refl
 
--- a transition and a place that the drawing has, and the row of the transition's bag
-pub record Within (bag : Bag) (d : Drawing) (t p : ℕ) (row : List ℕ) : Type 0 where
+holds : (bag : Bag) (m : Model) (t p w : ℕ) (ls : List ℕ) (rs : List Row) → ((q : ℕ) → slice_index ls q ≡ m.place_label q) →
+    ((u : ℕ) → Shows (with_weight bag m t p w) u (row_or_blank rs u)) → Holds (with_weight bag m t p w) m.places m.transitions ls rs
+holds Cause m t p w ls rs labels rows = record { places = refl; transitions = refl; labels = labels; rows = rows }
+holds Effect m t p w ls rs labels rows = record { places = refl; transitions = refl; labels = labels; rows = rows }
+
+row_with_long : (bag : Bag) (r : Row) (p w : ℕ) → length (bag_of bag (row_with bag r p w)) ≡ length (bag_of bag r)
+row_with_long Cause r p w = length-set r.cause p w
+row_with_long Effect r p w = length-set r.effect p w
+
+-- The row is that of a transition and a place that the drawing has, with the weight written; xs are the weights of its bag.
+pub record Written (bag : Bag) (d : Drawing) (t p w : ℕ) (row : Row) (xs : List ℕ) : Type 0 where
   pub transition : t < d.arrays.transitions
   pub place : p < d.arrays.places
-  pub long : length row ≡ 64
-  pub reads : (q : ℕ) → get_or row q 0 ≡ weights bag (drawn d) t q
+  pub stored : t < length d.arrays.rows
+  pub row_is : row ≡ row_with bag (row_or_blank d.arrays.rows t) p w
+  pub weights_are : xs ≡ bag_of bag row
+  pub long : length xs ≡ 64
 
-module _ (bag : Bag) (d : Drawing) (t p w : ℕ) (row : List ℕ) (h : Within bag d t p row) where
-  row_size : sum (set row p w) ≡ size_of bag (with_weight bag (drawn d) t p w) t
+module _ (bag : Bag) (d : Drawing) (t p w : ℕ) (row : Row) (xs : List ℕ) (h : Written bag d t p w row xs) where
+  shown : Shows (with_weight bag (drawn d) t p w) t row
+  shown = subst (Shows (with_weight bag (drawn d) t p w) t) (sym h.row_is)
+      (row_shows bag (drawn d) t p w (row_or_blank d.arrays.rows t)
+      (omega (arith, h.place, d.arrays.few.0, h.long, ap length h.weights_are, ap (λ (r : Row). length (bag_of bag r)) h.row_is, row_with_long bag (row_or_blank d.arrays.rows t) p w))
+      (record { label = refl; cause = λ _. refl; effect = λ _. refl }))
+
+  row_size : sum xs ≡ size_of bag (with_weight bag (drawn d) t p w) t
   row_size =
-      list_sum_of (set row p w) d.arrays.places (reweighed (weights bag (drawn d)) t p w t)
-      (omega (arith, length-set row p w, h.long, d.counts.0))
-      (row_read row (weights bag (drawn d)) t p w (omega (arith, h.long, d.counts.0)) h.reads)
-      (λ q past. reweighed_outside (weights bag (drawn d)) t p w d.arrays.places d.arrays.transitions h.place h.transition
-      (weights_outside bag (drawn d) (drawn_lawful d)) t q (inl past))
+      list_sum_of xs d.arrays.places (weights bag (with_weight bag (drawn d) t p w) t) (omega (arith, h.long, d.arrays.few.0))
+      (λ q. ap (λ (ys : List ℕ). get_or ys q 0) h.weights_are ∙ shown_weights bag (with_weight bag (drawn d) t p w) t row shown q)
+      (λ q past. with_weight_outside bag (drawn d) t p w (drawn_lawful d) h.transition h.place t q (inl past))
       ∙ sym (size_with_weight bag (drawn d) t p w)
 
-  pub too_large : 255 < sum (set row p w) → 14 ≡ weight_refusal bag (drawn d) t p w
+  pub too_large : 255 < sum xs → 14 ≡ weight_refusal bag (drawn d) t p w
   too_large l = grind (arith, nat_tests, h.transition, h.place, row_size)
 
-  pub allowed : sum (set row p w) ≤ 255 → 0 ≡ weight_refusal bag (drawn d) t p w
+  pub allowed : sum xs ≤ 255 → 0 ≡ weight_refusal bag (drawn d) t p w
   allowed l = grind (arith, nat_tests, h.transition, h.place, row_size)
 
-  pub reweighed_model : model_of (with_row bag d.arrays t (set row p w)) ≡ with_weight bag (drawn d) t p w
-  reweighed_model = with_row_model bag d.arrays t p w row (omega (arith, h.transition, d.counts.1)) (omega (arith, h.place, h.long, d.counts.0)) d.sized h.reads
+  rows_show : (u : ℕ) → Shows (with_weight bag (drawn d) t p w) u (row_or_blank (set d.arrays.rows t row) u)
+  rows_show u = ⊎_elim
+      (λ (e : u ≡ t). subst (λ (v : ℕ). Shows (with_weight bag (drawn d) t p w) v (row_or_blank (set d.arrays.rows t row) v)) (sym e)
+      (subst (Shows (with_weight bag (drawn d) t p w) t) (sym (get_or-set_same d.arrays.rows t row _ h.stored)) shown))
+      (λ (ne : u ≡ t → ⊥). subst (Shows (with_weight bag (drawn d) t p w) u) (sym (get_or-set_other d.arrays.rows t u row _ ne))
+      (other_shows bag (drawn d) t p w u _ ne (record { label = refl; cause = λ _. refl; effect = λ _. refl })))
+      (cases_eq u t)
 
-  pub reweighed_held : sum (set row p w) ≤ 255 → Held (with_row bag d.arrays t (set row p w))
-  reweighed_held l = held (with_row bag d.arrays t (set row p w)) (with_weight bag (drawn d) t p w)
-      (with_row_sized bag d.arrays t (set row p w) d.sized)
-      (with_row_wide bag d.arrays t (set row p w) (omega (arith, h.transition, d.counts.1)) (length-set row p w ∙ h.long) d.sized d.wide)
-      reweighed_model
+  pub reweighed_net : net_in d.arrays.places d.arrays.transitions d.arrays.place_labels (set d.arrays.rows t row) ≡ with_weight bag (drawn d) t p w
+  reweighed_net = held_net (with_weight bag (drawn d) t p w) _ _ _ _ (holds bag (drawn d) t p w _ _ (λ _. refl) rows_show)
+
+  pub reweighed_held : sum xs ≤ 255 → Lawful (net_in d.arrays.places d.arrays.transitions d.arrays.place_labels (set d.arrays.rows t row))
+  reweighed_held l = held (with_weight bag (drawn d) t p w) _ _ _ _ (holds bag (drawn d) t p w _ _ (λ _. refl) rows_show)
       (with_weight_lawful bag (drawn d) t p w (drawn_lawful d) h.transition h.place (omega (arith, row_size)))

@@ -7,12 +7,4 @@ abbrev pub drawn : Drawing → Model
 drawn d = model_of d.arrays
 
 pub drawn_lawful : (d : Drawing) → Lawful (drawn d)
-drawn_lawful d = record {
-  few_places = d.counts.0;
-  few_transitions = d.counts.1;
-  place_labels = d.place_labels;
-  transition_labels = d.transition_labels;
-  sizes = d.sizes;
-  causes = d.causes;
-  effects = d.effects;
-}
+drawn_lawful d = d.lawful

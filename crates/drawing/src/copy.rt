@@ -1,60 +1,47 @@
 // A drawing as a copy of any net.
-ghost use Rattle.std.specs.Prelude.{◌≡◌, ℕ, ◌<◌, [], length, slice_index, slice_index_or};
-ghost use Rattle.drawing.specs.Arrays.{entry};
+ghost use Rattle.std.specs.Prelude.{◌≡◌, ℕ, slice_index};
 ghost use Rattle.net.specs.Bags.{weights};
+ghost use Rattle.drawing.specs.Arrays.{Shows, row_or_blank};
 ghost use Rattle.drawing.specs.Drawn.{drawn};
 
 use crate::Drawing;
-use crate::arrays::Arrays;
+use crate::arrays::{Arrays, Row};
 use net::bag::{Bag, weight};
-use net::interface::{Net, place_label_number, transition_label_number};
+use net::interface::Net;
+use net::node::label_number;
 use net::numbers::{PlaceNo, TransitionNo};
+use std::array;
 
+// The labels of the places, 0 past the last.
 fn place_labels<N: Net>(net: &N) -> [u16; 64]
-    ensures long { length result ≡ 64 }
-    ensures reads { (q : ℕ) → slice_index result q ≡ (N.model net.now).place_label q }
+    ensures { (q : ℕ) → slice_index result q ≡ (N.model net.now).place_label q }
 {
-    let mut labels = [0; 64];
-    for p in 0..net.places() {
-        labels[p as usize] = place_label_number(net, PlaceNo(p));
-    }
-    labels
+    array::from_fn(|p| label_number(net, PlaceNo(p as u8)))
 }
 
-fn transition_labels<N: Net>(net: &N) -> [u16; 128]
-    ensures long { length result ≡ 128 }
-    ensures reads { (q : ℕ) → slice_index result q ≡ (N.model net.now).transition_label q }
+// The weights of one bag of a transition, 0 past the last place.
+fn weights_of<N: Net>(net: &N, bag: Bag, transition: TransitionNo) -> [u8; 64]
+    ensures { (q : ℕ) → slice_index result q ≡ weights bag (N.model net.now) transition.0 q }
 {
-    let mut labels = [0; 128];
-    for t in 0..net.transitions() {
-        labels[t as usize] = transition_label_number(net, TransitionNo(t));
-    }
-    labels
+    array::from_fn(|p| weight(net, bag, transition, PlaceNo(p as u8)))
 }
 
-// The weights of one bag.
-fn row_of<N: Net>(net: &N, bag: Bag, transition: TransitionNo) -> [u8; 64]
-    ensures long { length result ≡ 64 }
-    ensures reads { (q : ℕ) → slice_index result q ≡ weights bag (N.model net.now) transition.0 q }
+// A transition; past the last its label and its weights are 0.
+fn row_of<N: Net>(net: &N, transition: TransitionNo) -> Row
+    ensures { Shows (N.model net.now) transition.0 result }
 {
-    let mut row = [0; 64];
-    for p in 0..net.places() {
-        row[p as usize] = weight(net, bag, transition, PlaceNo(p));
+    Row {
+        label: label_number(net, transition),
+        cause: weights_of(net, Bag::Cause, transition),
+        effect: weights_of(net, Bag::Effect, transition),
     }
-    row
 }
 
-// The weights of all causes, or of all effects.
-fn rows_of<N: Net>(net: &N, bag: Bag) -> [[u8; 64]; 128]
-    ensures long { length result ≡ 128 }
-    ensures wide { (t : ℕ) → t < 128 → length (slice_index_or result t []) ≡ 64 }
-    ensures reads { (t q : ℕ) → entry result t q ≡ weights bag (N.model net.now) t q }
+// A row for each transition that there can be.
+fn rows_of<N: Net>(net: &N) -> [Row; 128]
+    ensures { (t : ℕ) → Shows (N.model net.now) t (row_or_blank result t) }
 {
-    let mut rows = [[0; 64]; 128];
-    for t in 0..net.transitions() {
-        rows[t as usize] = row_of(net, bag, TransitionNo(t));
-    }
-    rows
+    array::from_fn(|t| row_of(net, TransitionNo(t as u8)))
 }
 
 impl Drawing {
@@ -67,9 +54,7 @@ impl Drawing {
                 places: net.places(),
                 transitions: net.transitions(),
                 place_labels: place_labels(net),
-                transition_labels: transition_labels(net),
-                causes: rows_of(net, Bag::Cause),
-                effects: rows_of(net, Bag::Effect),
+                rows: rows_of(net),
             },
         }
     }

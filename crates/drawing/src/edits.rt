@@ -1,51 +1,63 @@
-// The edits of a drawing: each makes the next arrays and writes the drawing whole.
-ghost use Rattle.std.specs.Prelude.{◌≡◌, ℕ, ◌<◌, length, MatchResult, slice_index};
-ghost use Rattle.net.specs.Model.{empty};
-ghost use Rattle.net.specs.Bags.{weights};
+// The edits of a drawing. A count goes up before the new label is written, since the labels past it are 0.
+ghost use Rattle.std.specs.Prelude.{◌≡◌, ◌<◌, ◌≤◌, MatchResult, IfOk};
+ghost use Rattle.net.specs.Model.{empty, highest_label};
 ghost use Rattle.drawing.specs.Drawn.{drawn};
 ghost use Rattle.drawing.specs.Edits.{with_place, with_transition, with_weight};
-ghost use Rattle.drawing.specs.Refusals.{refusal_of, place_refusal, transition_refusal, weight_refusal};
+ghost use Rattle.drawing.specs.Refusals.{refusal_of, add_refusal, place_refusal, transition_refusal, weight_refusal};
 
 use crate::Drawing;
-use crate::arrays::Arrays;
+use crate::arrays::{Arrays, Row};
 use crate::refusal::DrawingRefusal;
 use net::bag::{Bag, bag_size};
 use net::limits::{HIGHEST_LABEL, LARGEST_BAG, MOST_PLACES, MOST_TRANSITIONS};
 use net::numbers::{Label, PlaceNo, TransitionNo};
+
+// Refuses a node that would be one too many, where `used` of at most `most` are in use, or that has too high a label.
+fn admit(used: u8, most: u8, label: Label) -> Result<(), DrawingRefusal>
+    ensures refusal { refusal_of result ≡ add_refusal used most label.0 }
+    ensures admitted { IfOk result (λ _. (used < most) × (label.0 ≤ highest_label)) }
+{
+    if used >= most {
+        return Err(DrawingRefusal::Full);
+    }
+    if label.0 > HIGHEST_LABEL {
+        return Err(DrawingRefusal::LabelTooHigh);
+    }
+    Ok(())
+}
 
 impl Drawing {
     /// A drawing of the empty net.
     pub fn new() -> Drawing
         ensures { drawn result ≡ empty }
     {
+        let blank = Row {
+            label: 0,
+            cause: [0; 64],
+            effect: [0; 64],
+        };
         Drawing {
             arrays: Arrays {
                 places: 0,
                 transitions: 0,
                 place_labels: [0; 64],
-                transition_labels: [0; 128],
-                causes: [[0; 64]; 128],
-                effects: [[0; 64]; 128],
+                rows: [blank; 128],
             },
         }
     }
 
+    // The two that add a node share `admit`. What follows it differs in the count, in the array that holds the label (the places'
+    // own, or the rows) and in the type of the number, so that one text for both would name all three.
     /// Adds a place at the end, with weights 0, and gives its number.
+    #[tactic(auto, using(finite::proofs::Sums::sum_more))]
     pub fn add_place(&mut self, label: Label) -> Result<PlaceNo, DrawingRefusal>
         ensures refusal { refusal_of result ≡ place_refusal (drawn self.old) label.0 }
         ensures after { MatchResult result (λ no. (no.0 ≡ (drawn self.old).places) × (drawn self.new ≡ with_place (drawn self.old) label.0)) (λ _. self.new ≡ self.old) }
     {
-        if self.arrays.places >= MOST_PLACES {
-            return Err(DrawingRefusal::Full);
-        }
-        if label.0 > HIGHEST_LABEL {
-            return Err(DrawingRefusal::LabelTooHigh);
-        }
-        let mut arrays = self.arrays;
-        let place = arrays.places;
-        arrays.place_labels[place as usize] = label.0;
-        arrays.places = place + 1;
-        *self = Drawing { arrays };
+        let place = self.arrays.places;
+        admit(place, MOST_PLACES, label)?;
+        self.arrays.places += 1;
+        self.arrays.place_labels[usize::from(place)] = label.0;
         Ok(PlaceNo(place))
     }
 
@@ -54,31 +66,15 @@ impl Drawing {
         ensures refusal { refusal_of result ≡ transition_refusal (drawn self.old) label.0 }
         ensures after { MatchResult result (λ no. (no.0 ≡ (drawn self.old).transitions) × (drawn self.new ≡ with_transition (drawn self.old) label.0)) (λ _. self.new ≡ self.old) }
     {
-        if self.arrays.transitions >= MOST_TRANSITIONS {
-            return Err(DrawingRefusal::Full);
-        }
-        if label.0 > HIGHEST_LABEL {
-            return Err(DrawingRefusal::LabelTooHigh);
-        }
-        let mut arrays = self.arrays;
-        let transition = arrays.transitions;
-        arrays.transition_labels[transition as usize] = label.0;
-        arrays.transitions = transition + 1;
-        *self = Drawing { arrays };
+        let transition = self.arrays.transitions;
+        admit(transition, MOST_TRANSITIONS, label)?;
+        self.arrays.transitions += 1;
+        self.arrays.rows[usize::from(transition)].label = label.0;
         Ok(TransitionNo(transition))
     }
 
-    // The weights of a transition's bag, one for each place that there can be.
-    fn row(&self, bag: Bag, transition: TransitionNo) -> [u8; 64]
-        requires { transition.0 < 128 }
-        ensures { (length result ≡ 64) × ((q : ℕ) → slice_index result q ≡ weights bag (drawn self.now) transition.0 q) }
-    {
-        match bag {
-            Bag::Cause => self.arrays.causes[transition.0 as usize],
-            Bag::Effect => self.arrays.effects[transition.0 as usize],
-        }
-    }
-
+    // Bag, transition and place are no struct: a caller goes through bags, transitions and places each by itself, as it does where
+    // it asks for the weights, and would build the struct for one call.
     /// Replaces one weight of a transition's cause or effect.
     pub fn set_weight(
         &mut self,
@@ -93,17 +89,12 @@ impl Drawing {
         if transition.0 >= self.arrays.transitions || place.0 >= self.arrays.places {
             return Err(DrawingRefusal::NoSuchNumber);
         }
-        let mut row = self.row(bag, transition);
-        row[place.0 as usize] = weight;
-        if bag_size(&row) > LARGEST_BAG {
+        let mut row = self.arrays.rows[usize::from(transition.0)];
+        row.set_weight(bag, place, weight);
+        if bag_size(row.bag(bag)) > LARGEST_BAG {
             return Err(DrawingRefusal::BagTooLarge);
         }
-        let mut arrays = self.arrays;
-        match bag {
-            Bag::Cause => arrays.causes[transition.0 as usize] = row,
-            Bag::Effect => arrays.effects[transition.0 as usize] = row,
-        }
-        *self = Drawing { arrays };
+        self.arrays.rows[usize::from(transition.0)] = row;
         Ok(())
     }
 }

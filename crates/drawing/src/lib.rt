@@ -1,9 +1,8 @@
 // Nets that are drawn: a drawing begins empty and is edited, or is a copy of another net.
 #![tactic(auto)]
 
-ghost use Rattle.std.specs.Prelude.{◌≤◌};
-ghost use Rattle.net.specs.Model.{Labelled, SmallBags, Outside};
-ghost use Rattle.drawing.specs.Arrays.{model_of, Sized, Wide};
+ghost use Rattle.net.specs.Model.{Lawful};
+ghost use Rattle.drawing.specs.Arrays.{model_of};
 
 use arrays::Arrays;
 
@@ -13,16 +12,11 @@ pub mod copy;
 pub mod edits;
 pub mod refusal;
 
+// Contracts say `drawn d` for the net of a drawing d. A model of `Drawing` would save the word, but the promise that a refused
+// edit leaves the drawing as it was, `self.new ≡ self.old`, would then be of the net alone and no longer of its arrays.
 /// A net in arrays. Every drawing that exists keeps the limits of a net.
 #[derive(Drop)]
 pub struct Drawing {
     arrays: Arrays,
-    ghost sized: { Sized arrays },
-    ghost wide: { Wide arrays },
-    ghost counts: { (arrays.places ≤ 64) × (arrays.transitions ≤ 128) },
-    ghost place_labels: { Labelled arrays.places (model_of arrays).place_label },
-    ghost transition_labels: { Labelled arrays.transitions (model_of arrays).transition_label },
-    ghost sizes: { SmallBags arrays.places (model_of arrays).cause × SmallBags arrays.places (model_of arrays).effect },
-    ghost causes: { Outside arrays.places arrays.transitions (model_of arrays).cause },
-    ghost effects: { Outside arrays.places arrays.transitions (model_of arrays).effect },
+    ghost lawful: { Lawful (model_of arrays) },
 }

@@ -2,17 +2,18 @@
 ghost use Rattle.std.specs.Prelude.{◌≡◌};
 ghost use Rattle.drawing.specs.Refusals.{number_of};
 
-/// The refusals of a drawing, in the order in which they are checked; the drawing is then as before.
+/// The refusals of a drawing, in the order in which they are checked, each with the number under which it is listed. A drawing
+/// whose edit is refused is as before.
 #[derive(Clone, Copy, PartialEq, Eq, Debug)]
 pub enum DrawingRefusal {
-    /// 11: all 64 places, or all 128 transitions, are used.
-    Full,
-    /// 12: the label is above 1,023.
-    LabelTooHigh,
-    /// 13: there is no such place or no such transition.
-    NoSuchNumber,
-    /// 14: the size of the cause or effect would pass 255.
-    BagTooLarge,
+    /// All 64 places, or all 128 transitions, are used.
+    Full = 11,
+    /// The label is above 1,023.
+    LabelTooHigh = 12,
+    /// There is no such place or no such transition.
+    NoSuchNumber = 13,
+    /// The size of the cause or effect would pass 255.
+    BagTooLarge = 14,
 }
 
 impl DrawingRefusal {
@@ -20,11 +21,6 @@ impl DrawingRefusal {
     pub fn number(self) -> u8
         ensures { result ≡ number_of self }
     {
-        match self {
-            DrawingRefusal::Full => 11,
-            DrawingRefusal::LabelTooHigh => 12,
-            DrawingRefusal::NoSuchNumber => 13,
-            DrawingRefusal::BagTooLarge => 14,
-        }
+        self as u8
     }
 }

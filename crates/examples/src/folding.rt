@@ -63,10 +63,10 @@ fn the_folded_net_is_read(rt: HostRuntime) -> Result<(), Fail> {
     let net = two_places(Bag::Cause, &[(2, 0), (1, 1), (0, 2)])?;
     let mut groups = Grouping::new();
     fold(&net, &mut groups);
-    assert_eq!(rt; groups.leader_of_place(PlaceNo(1)), Some(PlaceNo(0)));
-    assert_eq!(rt; groups.leader_of_place(PlaceNo(2)), None);
+    assert_eq!(rt; groups.places.leader_of(PlaceNo(1)), Some(PlaceNo(0)));
+    assert_eq!(rt; groups.places.leader_of(PlaceNo(2)), None);
     assert_eq!(rt;
-        groups.leader_of_transition(TransitionNo(2)),
+        groups.transitions.leader_of(TransitionNo(2)),
         Some(TransitionNo(0))
     );
     let folded = Folded::over(&net, &groups);

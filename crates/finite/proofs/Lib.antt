@@ -7,3 +7,4 @@ pub mod Lexicographic
 pub mod Injections
 pub mod Tables
 pub mod Products
+pub mod Ranges

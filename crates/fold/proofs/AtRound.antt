@@ -20,7 +20,7 @@ module _ (m : Model) where
   pub record AtRound (k : ℕ) (g : Grouping) : Type 0 where
     pub divides : DividesNet m (rounds m k) g
     pub moving : (j : ℕ) → j < k → Stable m (rounds m j) → ⊥
-    pub counted : k ≤ g.place_groups + g.transition_groups
+    pub counted : k ≤ g.places.groups + g.transitions.groups
 
   pub at_labels : (g : Grouping) → DividesNet m (label_groups m) g → AtRound 0 g
   unfolding rounds
@@ -31,8 +31,8 @@ module _ (m : Model) where
   few_rounds law k g a = omega (
     arith,
     a.counted,
-    a.divides.place_groups,
-    a.divides.transition_groups,
+    a.divides.on_places.number,
+    a.divides.on_transitions.number,
     groups_most m.places (rounds m k).same_place,
     groups_most m.transitions (rounds m k).same_transition,
     law.few_places,
@@ -48,36 +48,36 @@ module _ (m : Model) where
         (refine_same m (groups_of g) (rounds m k) (divides_same m (rounds m k) g E a.divides)) step
 
     -- as many groups: at rest
-    module _ (even : true ≡ (eqb next.place_groups g.place_groups && eqb next.transition_groups g.transition_groups)) where
+    module _ (even : true ≡ (eqb next.places.groups g.places.groups && eqb next.transitions.groups g.transitions.groups)) where
       pub rested : rest m ≡ k
       rested =
           given (and_parts _ _ (sym even)) λ e.
           rest_is m k (even_stable m (rounds m k) E
-          (sym a.divides.place_groups ∙ sym (eqb-true _ _ e.0) ∙ divided.place_groups)
-          (sym a.divides.transition_groups ∙ sym (eqb-true _ _ e.1) ∙ divided.transition_groups)) a.moving
+          (sym a.divides.on_places.number ∙ sym (eqb-true _ _ e.0) ∙ divided.on_places.number)
+          (sym a.divides.on_transitions.number ∙ sym (eqb-true _ _ e.1) ∙ divided.on_transitions.number)) a.moving
 
       pub final_divided : DividesNet m (final m) g
       unfolding final
       final_divided = subst (λ (j : ℕ). DividesNet m (rounds m j) g) (sym rested) a.divides
 
     -- more groups: the next round
-    module _ (uneven : false ≡ (eqb next.place_groups g.place_groups && eqb next.transition_groups g.transition_groups)) where
+    module _ (uneven : false ≡ (eqb next.places.groups g.places.groups && eqb next.transitions.groups g.transitions.groups)) where
       parted : Stable m (rounds m k) → ⊥
       parted s =
           given (stable_even m (rounds m k) s) λ e.
           ⊎_elim
-          (λ h. eqb-false _ _ h (divided.place_groups ∙ sym e.0 ∙ sym a.divides.place_groups))
-          (λ h. eqb-false _ _ h (divided.transition_groups ∙ sym e.1 ∙ sym a.divides.transition_groups))
+          (λ h. eqb-false _ _ h (divided.on_places.number ∙ sym e.0 ∙ sym a.divides.on_places.number))
+          (λ h. eqb-false _ _ h (divided.on_transitions.number ∙ sym e.1 ∙ sym a.divides.on_transitions.number))
           (and_cases _ _ (sym uneven))
 
-      more : k + 1 ≤ next.place_groups + next.transition_groups
+      more : k + 1 ≤ next.places.groups + next.transitions.groups
       more =
           given (refine_equivalences m (rounds m k) E) λ F.
           given (groups_le m.places _ _ E.on_places F.on_places (refine_within m (rounds m k)).on_places) λ p.
           given (groups_le m.transitions _ _ E.on_transitions F.on_transitions (refine_within m (rounds m k)).on_transitions) λ t.
           ⊎_elim
-          (λ (h : eqb next.place_groups g.place_groups ≡ false). omega (arith, eqb-false next.place_groups g.place_groups h, p, t, a.counted, a.divides.place_groups, a.divides.transition_groups, divided.place_groups, divided.transition_groups))
-          (λ (h : eqb next.transition_groups g.transition_groups ≡ false). omega (arith, eqb-false next.transition_groups g.transition_groups h, p, t, a.counted, a.divides.place_groups, a.divides.transition_groups, divided.place_groups, divided.transition_groups))
+          (λ (h : eqb next.places.groups g.places.groups ≡ false). omega (arith, eqb-false next.places.groups g.places.groups h, p, t, a.counted, a.divides.on_places.number, a.divides.on_transitions.number, divided.on_places.number, divided.on_transitions.number))
+          (λ (h : eqb next.transitions.groups g.transitions.groups ≡ false). omega (arith, eqb-false next.transitions.groups g.transitions.groups h, p, t, a.counted, a.divides.on_places.number, a.divides.on_transitions.number, divided.on_places.number, divided.on_transitions.number))
           (and_cases _ _ (sym uneven))
 
       pub at_next : AtRound (k + 1) next

@@ -3,6 +3,10 @@ use Rattle.std.proofs.Common.{◌≡◌, ℕ, zero, suc, ◌+◌, ◌<◌, ◌�
 use Rattle.std.proofs.lemmas.Bool.{cases_eq, cond-true, cond-false}
 use Rattle.finite.specs.Below.{sum_below}
 use Rattle.finite.proofs.Sums.{sum_none, sum_more, sum_le}
+use Rattle.net.specs.Model.{Model, Lawful}
+use Rattle.net.specs.Bags.{weights}
+use Rattle.net.specs.declared.bag.Bag.{Bag}
+use Rattle.net.specs.declared.bag.Bag.TheVariants.{Cause, Effect}
 use Rattle.bisimulation.specs.Rounds.{group_count}
 
 sum_longer : (n m : ℕ) (f : ℕ → ℕ) → n ≤ m → sum_below n f ≤ sum_below m f
@@ -41,3 +45,15 @@ module _ (same : ℕ → ℕ → Bool) (bag : ℕ → ℕ) (g : ℕ) where
         sum_le (n + 1) (λ p. cond (same p g) (bag p) 0) bag (λ p _. cond_le (same p g) (bag p)),
         sum_longer (n + 1) m bag (omega arith),
       )
+
+bag_small : (bag : Bag) (m : Model) → Lawful m → (t : ℕ) → sum_below m.places (weights bag m t) ≤ 255
+bag_small Cause m l t = l.sizes.0 t
+bag_small Effect m l t = l.sizes.1 t
+
+-- in a lawful net a group and one more of its places hold no more than a bag
+pub group_fits : (bag : Bag) (m : Model) (same : ℕ → ℕ → Bool) (t g n : ℕ) → Lawful m → n < m.places → same n g ≡ true →
+    group_count n same (weights bag m t) g + weights bag m t n ≤ 255
+group_fits bag m same t g n law l e = omega (arith, group_room same (weights bag m t) g n m.places l e, bag_small bag m law t)
+
+-- what a loop over the places of a group asks
+pub ruleset group_steps = (group_none, group_in, group_out, group_fits)

@@ -7,5 +7,4 @@ pub mod Layered
 mod Listed
 mod Loops
 mod Tallied
-mod Threes
 pub mod OwnGroups

@@ -13,5 +13,5 @@ use Rattle.fold.proofs.Layered.{layer_alike}
 
 pub own_alike : (m : Model) (g : Grouping) → Divides m.places m.transitions (final m) g → Alike (folded_by m g) m
 own_alike m g d = layer_alike m g
-    (and_from _ _ (eq-eqb _ _ (sym d.place_count)) (eq-eqb _ _ (sym d.transition_count)))
+    (and_from _ _ (eq-eqb _ _ (sym d.on_places.members)) (eq-eqb _ _ (sym d.on_transitions.members)))
     (divides_same m (final m) g (final_equivalences m) d)

@@ -17,11 +17,11 @@ pub record Tallied (lead bag : ℕ → ℕ) (p : ℕ) (counts : List ℕ) : Type
   pub small : (l : ℕ) → l < 64 → get_or counts l 0 ≤ 255 * p
 
 module _ (lead bag : ℕ → ℕ) where
-  pub tallied_none : (counts : List ℕ) → length counts ≡ 64 → ((l : ℕ) → l < 64 → get_or counts l 0 ≡ 0) → Tallied lead bag 0 counts
+  pub tallied_none : (counts : List ℕ) → length counts ≡ 64 → ((l : ℕ) → get_or counts l 0 ≡ 0) → Tallied lead bag 0 counts
   tallied_none counts long zeros = record {
     long = long;
-    each = λ l h. zeros l h ∙ sym (sum_none (led lead bag l));
-    small = λ l h. omega (arith, zeros l h);
+    each = λ l h. zeros l ∙ sym (sum_none (led lead bag l));
+    small = λ l h. omega (arith, zeros l);
   }
 
   module _ (p w : ℕ) (counts : List ℕ) (h : Tallied lead bag p counts) (room : lead p < 64) (is : w ≡ bag p) (low : w < 256) where
@@ -48,9 +48,10 @@ module _ (lead bag : ℕ → ℕ) where
         (λ (ne : lead p ≡ l → ⊥). omega (arith, other l ne, h.small l k))
         (cases_eq (lead p) l)
 
-    pub tallied_more : Tallied lead bag (p + 1) (set counts (lead p) (get_or counts (lead p) 0 + w))
+    -- counted at an index that is p's leader
+    pub tallied_more : (i : ℕ) → i ≡ lead p → Tallied lead bag (p + 1) (set counts i (get_or counts i 0 + w))
     unfolding next
-    tallied_more = record { long = length-set counts (lead p) (get_or counts (lead p) 0 + w) ∙ h.long; each = more; small = fits }
+    tallied_more i e = rw e (record { long = length-set counts (lead p) (get_or counts (lead p) 0 + w) ∙ h.long; each = more; small = fits })
 
   -- the count of g's group
   pub tallied_all : (p n : ℕ) (counts : List ℕ) {g : ℕ} → p ≡ n → Tallied lead bag p counts → lead g < 64 →

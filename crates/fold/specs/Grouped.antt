@@ -1,11 +1,7 @@
--- The groups that a grouping's arrays stand for. Assumes nothing.
-use Rattle.std.specs.Prelude.{◌==◌, slice_index}
+-- The groups that a grouping stands for. Assumes nothing.
 use Rattle.bisimulation.specs.Groups.{Groups}
 use Rattle.fold.specs.declared.grouping.Grouping.{Grouping}
+use Rattle.fold.specs.Together.{together}
 
--- together are those with the same leader
 abbrev pub groups_of : Grouping → Groups
-groups_of g = record {
-  same_place = λ p q. (slice_index g.place_leaders p == slice_index g.place_leaders q);
-  same_transition = λ t u. (slice_index g.transition_leaders t == slice_index g.transition_leaders u);
-}
+groups_of g = record { same_place = together g.places.leaders; same_transition = together g.transitions.leaders }

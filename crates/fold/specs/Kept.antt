@@ -10,8 +10,8 @@ use Rattle.fold.specs.Images.{by_image}
 
 pub groups_equivalences : (m : Model) (g : Grouping) → Equivalences m (groups_of g)
 groups_equivalences m g = record {
-  on_places = by_image m.places (λ p. slice_index g.place_leaders p);
-  on_transitions = by_image m.transitions (λ t. slice_index g.transition_leaders t);
+  on_places = by_image m.places (slice_index g.places.leaders);
+  on_transitions = by_image m.transitions (slice_index g.transitions.leaders);
 }
 
 pub kept_equivalences : (m : Model) (g : Grouping) → Equivalences m (refine m (groups_of g))

@@ -1,27 +1,52 @@
-// The leaders of the groups of a likeness, in order.
-ghost use Rattle.std.specs.Prelude.{◌≡◌, ◌≤◌, length};
-ghost use Rattle.bisimulation.specs.Leaders.{groups};
-ghost use Rattle.fold.specs.Layer.{Lists};
+// The leaders of the groups of a division, in order.
+ghost use Rattle.std.specs.Prelude.{◌≡◌, ◌<◌, ◌≤◌, MatchOption, slice_index_or};
+ghost use Rattle.arrayvec.specs.ArrayVec.{array_vec_len};
 
-use super::forming::form_groups;
-use super::likeness::Likeness;
+use super::division::Division;
+use arrayvec::ArrayVec;
+use net::node::Node;
+use std::marker::PhantomData;
 
-/// Lists the lowest number of each group, in order, and gives the number of groups.
-pub fn list_leaders<L: Likeness>(by: &L, n: u8, listed: &mut [u8]) -> u8
-    requires bound { n ≡ L.size by.now }
-    requires few { n ≤ 128 }
-    requires room { n ≤ length listed.old }
-    ensures count { result ≡ groups (L.like by.now) n }
-    ensures lists { Lists (L.like by.now) n result listed.new }
-{
-    let mut leaders = [0; 128];
-    form_groups(by, n, &mut leaders);
-    let mut count = 0;
-    for p in 0..n {
-        if leaders[p as usize] == p {
-            listed[count as usize] = p;
-            count += 1;
+/// Nodes of one kind in a list, at most so many: the leaders of groups, by the number of the group.
+#[derive(Drop)]
+pub struct Leaders<K, const MOST: usize> {
+    pub(crate) listed: ArrayVec<u8, MOST>,
+    pub(crate) kind: PhantomData<K>,
+    ghost few: { array_vec_len listed < 256 },
+}
+
+impl<K: Node, const MOST: usize> Leaders<K, MOST> {
+    ghost use Rattle.fold.specs.Listing.{LeadersOf};
+
+    /// The leaders of the groups of a division, in order.
+    pub fn of(division: &Division<K, MOST>) -> Leaders<K, MOST>
+        ensures { LeadersOf division.now result }
+    {
+        let mut listed = ArrayVec::new();
+        for p in 0..division.members {
+            if division.leader(K::nth(p)) == p {
+                listed.push(p);
+            }
+        }
+        Leaders {
+            listed,
+            kind: PhantomData,
         }
     }
-    count
+
+    /// How many groups.
+    pub(crate) fn count(&self) -> u8
+        ensures { result ≡ array_vec_len self.now.listed }
+    {
+        self.listed.len() as u8
+    }
+
+    /// The leader of a group, the group numbered as a node of the folded net; none past the last group.
+    pub fn get(&self, group: K) -> Option<K>
+        ensures { MatchOption result (array_vec_len self.now.listed ≤ K.number group) (λ l. (K.number group < array_vec_len self.now.listed) × (K.number l ≡ slice_index_or self.now.listed.items (K.number group) 0)) }
+    {
+        let leaders = self.listed.as_slice();
+        let leader = leaders.get(usize::from(group.number()));
+        leader.map(|l| K::nth(*l))
+    }
 }

@@ -2,14 +2,15 @@
 #![tactic(auto)]
 
 mod counts;
+pub mod division;
 mod exchange;
 pub mod fold;
 pub mod folded;
-mod forming;
+mod grouped;
 pub mod grouping;
+mod labels;
 mod leaders;
 mod likeness;
 mod places;
 mod rounds;
-mod together;
 mod transitions;

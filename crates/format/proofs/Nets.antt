@@ -1,12 +1,11 @@
--- The net of a lawful sheet is lawful, and its fields lie within the bytes.
-use Rattle.std.proofs.Common.{◌≡◌, ℕ, ◌+◌, ◌*◌, ◌^◌, ◌<◌, ◌≤◌, cond, ◌&&◌, ltb, List, length, ap, inl, inr, ⊎_elim, arith}
+-- The net of a lawful sheet is lawful.
+use Rattle.std.proofs.Common.{◌≡◌, ℕ, ◌+◌, ◌*◌, ◌^◌, ◌<◌, ◌≤◌, cond, ◌&&◌, ltb, List, inl, inr, ⊎_elim, arith}
 use Rattle.std.proofs.lemmas.Nat.{mod_below, pow_pos}
 use Rattle.std.proofs.lemmas.Bool.{cond-true, cond-false, cond_both, and_left, and_right, and_from, cases_lt, lt-ltb, le-ltb}
 use Rattle.finite.proofs.Sums.{sum_same, sum_zero}
 use Rattle.net.specs.Model.{Lawful, Labelled, Outside, SmallBags}
 use Rattle.format.specs.Fields.{field_at}
 use Rattle.format.specs.Sheets.{net_of, places_of, transitions_of, row_at, weight_at, weights_from, size_at, LawfulSheet, sheet_refusal}
-use Rattle.format.proofs.Sizes.{row_inside}
 use Rattle.format.proofs.Refusals.{lawful_sheet}
 
 pub field_below : (bs : List ℕ) (o w : ℕ) → field_at bs o w < 2 ^ w
@@ -51,17 +50,3 @@ lawful_net bs s = record {
 
 pub sheet_lawful : (bs : List ℕ) → sheet_refusal bs ≡ 0 → Lawful (net_of bs)
 sheet_lawful bs e = lawful_net bs (lawful_sheet bs e)
-
--- where the fields of a sheet lie
-module _ (bs : List ℕ) (e : sheet_refusal bs ≡ 0) where
-  pub sheet_long : 3 ≤ length bs
-  sheet_long = (lawful_sheet bs e).long
-
-  pub sheet_few : places_of bs ≤ 64
-  sheet_few = (lawful_sheet bs e).places
-
-  pub label_room : (p : ℕ) → p < places_of bs → 19 + 10 * p + 10 ≤ 8 * length bs
-  label_room p h = omega (arith, (lawful_sheet bs e).sized)
-
-  pub row_room : (n row t : ℕ) → n ≡ places_of bs → row ≡ row_at n t → t < transitions_of bs → row + (10 + 16 * n) ≤ 8 * length bs
-  row_room n row t f g h = omega (arith, g, row_inside n t (transitions_of bs) h, ap (λ (x : ℕ). row_at x (transitions_of bs)) f, (lawful_sheet bs e).sized)

@@ -1,11 +1,11 @@
 -- The net of a lawful sheet has that sheet.
-use Rattle.std.proofs.Common.{◌≡◌, ℕ, ◌+◌, ◌-◌, ◌*◌, ◌/◌, ◌%◌, ◌^◌, ◌<◌, ◌≤◌, ltb, List, [], ◌∷◌, ◌++◌, length, get_or, take, sym, refl, ap, ◌∙◌, subst, ap₂, ⊎_elim, add-zero, mul_assoc, arith}
+use Rattle.std.proofs.Common.{◌≡◌, ℕ, ◌+◌, ◌-◌, ◌*◌, ◌/◌, ◌%◌, ◌^◌, ◌<◌, ◌≤◌, ltb, List, [], ◌∷◌, ◌++◌, length, get_or, take, sym, refl, ap, ◌∙◌, subst, ap₂, add-zero, mul_assoc, arith}
 use native.Mathlib.Nat.{mul-add-mod_self_right}
 use Rattle.std.specs.List.{AllByRecursion}
 use Rattle.std.proofs.lemmas.Nat.{pow-add, shr_split}
-use Rattle.std.proofs.ByRecursion.{All-get_or, All-from_get_or}
-use Rattle.std.proofs.lemmas.List.{take_more, take_all, get_or_past}
-use Rattle.std.proofs.lemmas.Bool.{cond-true, lt-ltb, cases_lt}
+use Rattle.std.proofs.ByRecursion.{All-from_get_or}
+use Rattle.std.proofs.lemmas.List.{take_more, take_all}
+use Rattle.std.proofs.lemmas.Bool.{cond-true, lt-ltb}
 use Rattle.format.specs.Fields.{size, spelt, number, num, packed, bytes_of, bytes_for, fill_for, first, field_at}
 use Rattle.format.specs.Sheets.{net_of, sheet_of, fields_of, labels_of, rows_of, row_of, weights_of, places_of, transitions_of, bits_of, row_at, weight_at, LawfulSheet, sheet_refusal}
 use Rattle.format.proofs.Bytes.{num_push, bytes_back}
@@ -79,10 +79,6 @@ module _ (bs : List ℕ) (small : AllByRecursion (λ b. b < 256) bs) (s : Lawful
       ap (λ (k : ℕ). bytes_of (bytes_for k) (number fs * 2 ^ fill_for k)) z
       ∙ ap₂ bytes_of (sym s.sized) whole
       ∙ bytes_back bs small
-
--- every element is a byte, by its place
-pub all_get_d_any : (xs : List ℕ) → AllByRecursion (λ b. b < 256) xs → (i : ℕ) → get_or xs i 0 < 256
-all_get_d_any xs h i = ⊎_elim (λ (l : i < length xs). All-get_or (λ b. b < 256) xs i 0 l h) (λ (l : length xs ≤ i). subst (λ (k : ℕ). k < 256) (sym (get_or_past xs i 0 l)) (omega arith)) (cases_lt i (length xs))
 
 pub sheet_whole : (bs : List ℕ) → ((i : ℕ) → get_or bs i 0 < 256) → sheet_refusal bs ≡ 0 → sheet_of (net_of bs) ≡ bs
 sheet_whole bs h e = sheet_again bs (All-from_get_or (λ b. b < 256) bs 0 (λ i l. h i)) (lawful_sheet bs e)

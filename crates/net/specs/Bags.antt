@@ -8,3 +8,8 @@ use Rattle.net.specs.declared.bag.Bag.TheVariants.{Cause, Effect}
 abbrev pub weights : Bag → Model → ℕ → ℕ → ℕ
 weights Cause m = m.cause
 weights Effect m = m.effect
+
+-- the other of the two bags
+abbrev pub other_bag : Bag → Bag
+other_bag Cause = Effect
+other_bag Effect = Cause

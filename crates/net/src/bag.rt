@@ -1,6 +1,6 @@
 // The two bags of a transition, and the size of a bag.
 ghost use Rattle.std.specs.Prelude.{◌≡◌, sum};
-ghost use Rattle.net.specs.Bags.{weights};
+ghost use Rattle.net.specs.Bags.{weights, other_bag};
 
 use super::interface::Net;
 use super::numbers::{PlaceNo, TransitionNo};
@@ -10,6 +10,18 @@ use super::numbers::{PlaceNo, TransitionNo};
 pub enum Bag {
     Cause,
     Effect,
+}
+
+impl Bag {
+    /// The other of the two bags.
+    pub fn other(self) -> Bag
+        ensures { result ≡ other_bag self }
+    {
+        match self {
+            Bag::Cause => Bag::Effect,
+            Bag::Effect => Bag::Cause,
+        }
+    }
 }
 
 /// The weight of a transition's bag at a place.
@@ -26,9 +38,5 @@ pub fn weight<N: Net>(net: &N, bag: Bag, transition: TransitionNo, place: PlaceN
 pub fn bag_size(row: &[u8; 64]) -> u16
     ensures { result ≡ sum row.now }
 {
-    let mut size: u16 = 0;
-    for w in row {
-        size += *w as u16;
-    }
-    size
+    row.iter().map(|weight| u16::from(*weight)).sum()
 }

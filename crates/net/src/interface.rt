@@ -5,6 +5,8 @@ ghost use Rattle.net.specs.Model.{Model, Lawful};
 use super::numbers::{Label, PlaceNo, TransitionNo};
 
 /// One net, by six questions. Past the last place or transition a label is none and a weight is 0.
+// Users implement these six and no others, so questions on places and on transitions, and on causes and on effects, stay twins;
+// `Node` and `weight` ask them by one text.
 pub trait Net {
     // the net that answers
     ghost model: { Self → Model };
@@ -35,24 +37,4 @@ pub trait Net {
     /// How many tokens a transition puts into a place.
     fn effect(&self, transition: TransitionNo, place: PlaceNo) -> u8
         ensures { result ≡ (model self.now).effect transition.0 place.0 };
-}
-
-/// The label of a place as a number, 0 past the last place.
-pub fn place_label_number<N: Net>(net: &N, place: PlaceNo) -> u16
-    ensures { (result ≡ (N.model net.now).place_label place.0) × (result ≤ 1023) }
-{
-    match net.place_label(place) {
-        Some(label) => label.0,
-        None => 0,
-    }
-}
-
-/// The label of a transition as a number, 0 past the last transition.
-pub fn transition_label_number<N: Net>(net: &N, transition: TransitionNo) -> u16
-    ensures { (result ≡ (N.model net.now).transition_label transition.0) × (result ≤ 1023) }
-{
-    match net.transition_label(transition) {
-        Some(label) => label.0,
-        None => 0,
-    }
 }

@@ -4,4 +4,5 @@
 pub mod bag;
 pub mod interface;
 pub mod limits;
+pub mod node;
 pub mod numbers;

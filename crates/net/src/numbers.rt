@@ -1,4 +1,5 @@
-// Numbers and labels, each a type of its own, so that none can be handed over for another.
+// Numbers and labels, each a type of its own, so that none can be handed over for another. Places and transitions keep two
+// types: one generic over a marker would need a second name for each kind, and what holds of both is in `Node` already.
 
 /// The number of a place, from 0.
 #[derive(Clone, Copy, PartialEq, Eq, Debug)]

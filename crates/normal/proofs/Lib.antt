@@ -1,4 +1,4 @@
+mod Chains
 mod Reducing
 mod Seating
 pub mod Says
-mod Members

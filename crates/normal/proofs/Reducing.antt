@@ -1,5 +1,5 @@
 -- The sheet of a ranked net is the least, and the seats along the ranking are seats of the net.
-use Rattle.std.proofs.Common.{◌≡◌, ℕ, suc, ◌<◌, eqb, List, sym, refl, ap, ◌∙◌, subst, ap₂}
+use Rattle.std.proofs.Common.{◌≡◌, ℕ, suc, ◌<◌, ◌≤◌, eqb, Option, MatchOption, List, sym, refl, ap, ◌∙◌, subst, ap₂}
 use Rattle.std.proofs.lemmas.Bool.{and_from, eq-eqb, cond-true}
 use Rattle.finite.specs.Products.{product_below}
 use Rattle.finite.specs.Injections.{Injects, inverse}
@@ -29,14 +29,18 @@ use Rattle.arrangement.proofs.Canonical.{least_is}
 use Rattle.arrangement.proofs.Counting.{count_by_places}
 use Rattle.search.specs.declared.ranking.Ranking.{Ranking}
 use Rattle.search.specs.Ranked.{Ranked}
-use Rattle.normal.specs.Counts.{choices}
+use Rattle.normal.specs.Counts.{choices, most_arrangements}
 
 -- a net folded by its own groups at rest is its folded net
 pub own_folded : (m : Model) (g : Grouping) → Divides m.places m.transitions (final m) g → folded_by m g ≡ folded m
 own_folded m g d =
     given (divides_same m (final m) g (final_equivalences m) d) λ s.
-    cond-true _ _ _ (and_from _ _ (eq-eqb _ _ (sym d.place_count)) (eq-eqb _ _ (sym d.transition_count)))
+    cond-true _ _ _ (and_from _ _ (eq-eqb _ _ (sym d.on_places.members)) (eq-eqb _ _ (sym d.on_transitions.members)))
     ∙ fold_same m (groups_of g) (final m) (equivalences_same m (final m) (groups_of g) (same_back m (groups_of g) (final m) s) (final_equivalences m)) s
+
+-- a count of arrangements, none if it is over the limit
+abbrev pub Counted : Option ℕ → ℕ → Type 0
+Counted count k = MatchOption count (most_arrangements < k) (λ w. (w ≡ k) × (w ≤ most_arrangements))
 
 -- the running product of choices is the number of arrangements
 pub choices_count : (f : Model) (labels : List ℕ) (n : ℕ) → Lawful f → n ≡ f.places → ((p : ℕ) → at labels p ≡ f.place_label p) → product_below n (choices labels) ≡ arrangement_count f

@@ -1,5 +1,5 @@
 -- What a reduction says, by the room of the buffer and the number of arrangements.
-use Rattle.std.proofs.Common.{◌≡◌, ℕ, ◌<◌, ◌≤◌, List, length, Ok, Err, ◌∙◌}
+use Rattle.std.proofs.Common.{◌≡◌, ℕ, ◌<◌, ◌≤◌, List, length, Result, IsErrAnd, Ok, Err, ◌∙◌}
 use Rattle.std.proofs.lemmas.Bool.{cond-true, cond-false, lt-ltb, le-ltb}
 use Rattle.net.specs.Model.{Model}
 use Rattle.format.specs.Sheets.{longest_sheet}
@@ -9,6 +9,11 @@ use Rattle.normal.specs.declared.refusal.ReduceRefusal.TheVariants.{ShortBuffer,
 use Rattle.normal.specs.declared.reduction.Reduction.{Reduction}
 use Rattle.normal.specs.Counts.{most_arrangements}
 use Rattle.normal.specs.Reductions.{reduction_of, reduce_says}
+
+-- a `?` passes on the error of what it stands at
+pub passed_on : {X Y E : Type 0} (r : Result X E) (z : Result Y E) (e f : E) → r ≡ Err f → r ≡ Err e → IsErrAnd z (λ x. x ≡ f) → z ≡ Err e
+passed_on r (Ok y) e f left given h = absurd h
+passed_on r (Err x) e f left given h = cc
 
 module _ (m : Model) (buffer : List ℕ) where
   pub says_short : length buffer < longest_sheet → reduce_says m buffer ≡ Err ShortBuffer

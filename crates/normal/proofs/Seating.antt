@@ -34,13 +34,13 @@ group_number_lem n same E leaders lead p l =
 
 pub seating :
     (m : Model) (g : Grouping) (r : Ranking) (s : Seats) → Lawful m → Divides m.places m.transitions (final m) g → Ranked (folded m) r →
-    SeatsAlong m.places g.place_leaders (folded m).places r.places s.places →
-    SeatsAlong m.transitions g.transition_leaders (folded m).transitions r.transitions s.transitions →
+    SeatsAlong m.places g.places.leaders (folded m).places r.places s.places.seats →
+    SeatsAlong m.transitions g.transitions.leaders (folded m).transitions r.transitions s.transitions.seats →
     Seating (seated_by m s)
 seating m g r s w d ranked places transitions =
     given (final_equivalences m) λ E.
-    let group : (p : ℕ) → p < m.places → at s.places p ≡ inverse (at r.places) (folded m).places (place_group m p) =
-    λ p l. places p l ∙ ap (inverse (at r.places) (folded m).places) (group_number_lem m.places (final m).same_place E.on_places g.place_leaders d.place_leaders p l) in
+    let group : (p : ℕ) → p < m.places → at s.places.seats p ≡ inverse (at r.places) (folded m).places (place_group m p) =
+    λ p l. places p l ∙ ap (inverse (at r.places) (folded m).places) (group_number_lem m.places (final m).same_place E.on_places g.places.leaders d.on_places.leaders p l) in
     let lands : (p : ℕ) → p < m.places → place_group m p < (folded m).places = λ p l. group_lands m.places (final m).same_place E.on_places p l in
     record {
       arrangement = at r.places;
@@ -50,6 +50,6 @@ seating m g r s w d ranked places transitions =
       places = λ p l. ap (at r.places) (group p l) ∙ inverse_right (at r.places) (folded m).places ranked.arranges.permutes (place_group m p) (lands p l);
       transitions = λ t l.
           transitions t l
-          ∙ ap (inverse (at r.transitions) (folded m).transitions) (group_number_lem m.transitions (final m).same_transition E.on_transitions g.transition_leaders d.transition_leaders t l)
+          ∙ ap (inverse (at r.transitions) (folded m).transitions) (group_number_lem m.transitions (final m).same_transition E.on_transitions g.transitions.leaders d.on_transitions.leaders t l)
           ∙ ranked_position (folded m) (folded_lawful_lem m w) (folded_distinct m) r ranked (transition_group m t) (group_lands m.transitions (final m).same_transition E.on_transitions t l);
     }

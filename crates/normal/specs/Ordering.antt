@@ -1,6 +1,4 @@
 -- The net of an ordered net, and that it is lawful. Assumes nothing.
-use Rattle.std.proofs.Common.{sym, ap, ◌∙◌}
-use Rattle.finite.specs.Injections.{inverse}
 use Rattle.net.specs.Model.{Model, Lawful}
 use Rattle.drawing.specs.Drawn.{drawn, drawn_lawful}
 use Rattle.arrangement.specs.Arrangements.{at, ordered}
@@ -11,10 +9,4 @@ abbrev pub ordered_net : Ordered → Model
 ordered_net x = ordered (drawn x.net.now) (at x.ranking.places) (at x.ranking.transitions)
 
 pub ordered_net_lawful : (x : Ordered) → Lawful (ordered_net x)
-ordered_net_lawful x =
-    ordered_lawful (drawn x.net.now) (at x.ranking.places) (at x.ranking.transitions) (drawn_lawful x.net.now)
-    (record {
-      lands = x.lands;
-      apart = λ i k l h e.
-          sym (x.back i l) ∙ ap (inverse (at x.ranking.places) (drawn x.net.now).places) e ∙ x.back k h;
-    })
+ordered_net_lawful x = ordered_lawful (drawn x.net.now) (at x.ranking.places) (at x.ranking.transitions) (drawn_lawful x.net.now) x.permutes

@@ -10,8 +10,8 @@ use Rattle.normal.specs.declared.seats.Seats.{Seats}
 abbrev pub seated_by : Model → Seats → Seated
 seated_by m s = record {
   net = m;
-  place_seat = at s.places;
-  transition_seat = at s.transitions;
+  place_seat = at s.places.seats;
+  transition_seat = at s.transitions.seats;
 }
 
 -- the number of the group that a leader leads: how many leaders come before it, that is members that lead themselves

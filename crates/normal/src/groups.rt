@@ -1,46 +1,24 @@
-// The seats of places or transitions, from the leaders of their groups and the order of the groups.
-ghost use Rattle.std.specs.Prelude.{◌≡◌, ℕ, ◌<◌, ◌≤◌, length};
+// The number of a group among the groups, and where a number stands in an order.
+ghost use Rattle.std.specs.Prelude.{◌≡◌, ◌<◌, ◌≤◌, length, MatchOption};
 ghost use Rattle.finite.specs.Injections.{inverse};
 ghost use Rattle.arrangement.specs.Arrangements.{at};
-ghost use Rattle.normal.specs.Seatings.{group_number, SeatsAlong};
+ghost use Rattle.normal.specs.Seatings.{group_number};
 
 // The number of the group that a leader leads: how many leaders come before it.
-fn group_number(leaders: &[u8], leader: u8) -> u8
+pub(crate) fn group_number(leaders: &[u8], leader: u8) -> u8
     requires { leader ≤ length leaders.now }
     ensures { (result ≡ group_number leaders.now leader) × (result ≤ leader) }
 {
-    let mut count = 0;
-    for q in 0..leader {
-        if leaders[q as usize] == q {
-            count += 1;
-        }
-    }
-    count
+    (0..leader)
+        .filter(|q| leaders[usize::from(*q)] == *q)
+        .count() as u8
 }
 
-// The position at which a number stands among the first n of an order, n where it does not.
-fn position_of(order: &[u8], n: u8, x: u8) -> u8
-    requires { n ≤ length order.now }
-    ensures { result ≡ inverse (at order.now) n x }
+// The position at which a number stands in an order, none where it does not.
+pub(crate) fn position_of(order: &[u8], x: u8) -> Option<u8>
+    requires { length order.now < 256 }
+    ensures { MatchOption result (inverse (at order.now) (length order.now) x ≡ length order.now) (λ i. (i < length order.now) × (i ≡ inverse (at order.now) (length order.now) x)) }
 {
-    for i in 0..n {
-        if order[i as usize] == x {
-            return i;
-        }
-    }
-    n
-}
-
-/// Writes the seat of each of the first n members: the position of its group in the order of the groups.
-pub(crate) fn seat_members(leaders: &[u8], n: u8, groups: u8, order: &[u8], seats: &mut [u8])
-    requires members { (n ≤ length leaders.now) × (n ≤ length seats.old) }
-    requires led { (p : ℕ) → p < n → at leaders.now p ≤ length leaders.now }
-    requires ordered { groups ≤ length order.now }
-    ensures long { length seats.new ≡ length seats.old }
-    ensures seats { SeatsAlong n leaders.now groups order.now seats.new }
-{
-    for p in 0..n {
-        let group = group_number(leaders, leaders[p as usize]);
-        seats[p as usize] = position_of(order, groups, group);
-    }
+    let position = order.iter().position(|y| *y == x)?;
+    Some(position as u8)
 }

@@ -1,6 +1,5 @@
 // A net with its places and transitions in another order.
-ghost use Rattle.std.specs.Prelude.{◌≡◌, ℕ, ◌<◌, length};
-ghost use Rattle.finite.specs.Injections.{inverse};
+ghost use Rattle.finite.specs.Injections.{Injects};
 ghost use Rattle.drawing.specs.Drawn.{drawn};
 ghost use Rattle.arrangement.specs.Arrangements.{at};
 
@@ -14,7 +13,5 @@ pub mod answers;
 pub struct Ordered<'a> {
     pub(crate) net: &'a Drawing,
     pub(crate) ranking: Ranking,
-    ghost sized: { (length ranking.places ≡ 64) × (length ranking.transitions ≡ 128) },
-    ghost lands: { (i : ℕ) → i < (drawn net.now).places → at ranking.places i < (drawn net.now).places },
-    ghost back: { (i : ℕ) → i < (drawn net.now).places → inverse (at ranking.places) (drawn net.now).places (at ranking.places i) ≡ i },
+    ghost permutes: { Injects (at ranking.places) (drawn net.now).places (drawn net.now).places },
 }

@@ -13,11 +13,10 @@ ghost use Rattle.normal.specs.Seatings.{seated_by, SeatsAlong};
 ghost use Rattle.normal.specs.Reductions.{reduce_says, reduced_buffer};
 
 use super::count::count_arrangements;
-use super::groups::seat_members;
 use super::ordered::Ordered;
 use super::reduction::Reduction;
 use super::refusal::ReduceRefusal;
-use super::seats::Seats;
+use super::seats::{Seats, SeatsOf};
 use drawing::Drawing;
 use fold::fold::fold;
 use fold::folded::Folded;
@@ -61,28 +60,12 @@ fn seats_along<N: Net>(
 ) -> Seats
     requires few { (places ≤ 64) × (transitions ≤ 128) }
     requires divides { Divides (N.model net.now).places (N.model net.now).transitions (final (N.model net.now)) groups.now }
-    ensures places { SeatsAlong (N.model net.now).places groups.now.place_leaders places ranking.now.places result.places }
-    ensures transitions { SeatsAlong (N.model net.now).transitions groups.now.transition_leaders transitions ranking.now.transitions result.transitions }
+    ensures places { SeatsAlong (N.model net.now).places groups.now.places.leaders places ranking.now.places result.places.seats }
+    ensures transitions { SeatsAlong (N.model net.now).transitions groups.now.transitions.leaders transitions ranking.now.transitions result.transitions.seats }
 {
-    let mut place_seats = [0; 64];
-    seat_members(
-        groups.place_leaders(),
-        net.places(),
-        places,
-        &ranking.places,
-        &mut place_seats,
-    );
-    let mut transition_seats = [0; 128];
-    seat_members(
-        groups.transition_leaders(),
-        net.transitions(),
-        transitions,
-        &ranking.transitions,
-        &mut transition_seats,
-    );
     Seats {
-        places: place_seats,
-        transitions: transition_seats,
+        places: SeatsOf::along(net, &groups.places, &ranking.places, places),
+        transitions: SeatsOf::along(net, &groups.transitions, &ranking.transitions, transitions),
     }
 }
 
@@ -102,10 +85,8 @@ pub fn reduce_seated<N: Net>(
     let mut groups = Grouping::new();
     let (places, transitions, rounds) = fold(net, &mut groups);
     let folded = draw_folded(net, &groups);
-    let arrangements = match count_arrangements(&folded.arrays().place_labels, places) {
-        Some(arrangements) => arrangements,
-        None => return Err(ReduceRefusal::TooManyArrangements),
-    };
+    let counted = count_arrangements(folded.arrays());
+    let arrangements = counted.ok_or(ReduceRefusal::TooManyArrangements)?;
     let ranking = least_arrangement(folded.arrays());
     let length = write_ranked(&folded, ranking, buffer)?;
     *seats = seats_along(net, &groups, places, transitions, &ranking);

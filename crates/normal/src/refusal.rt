@@ -9,9 +9,9 @@ use writer::refusal::WriteRefusal;
 #[derive(Clone, Copy, PartialEq, Eq, Debug)]
 pub enum ReduceRefusal {
     /// 31: the buffer has fewer bytes than the longest sheet, 16,627, whatever the net needs.
-    ShortBuffer,
+    ShortBuffer = 31,
     /// 32: the folded net has more than 40,320 arrangements.
-    TooManyArrangements,
+    TooManyArrangements = 32,
 }
 
 impl ReduceRefusal {
@@ -19,10 +19,7 @@ impl ReduceRefusal {
     pub fn number(self) -> u8
         ensures { result ≡ number_of self }
     {
-        match self {
-            ReduceRefusal::ShortBuffer => 31,
-            ReduceRefusal::TooManyArrangements => 32,
-        }
+        self as u8
     }
 }
 

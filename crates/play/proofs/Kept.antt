@@ -10,9 +10,9 @@ use Rattle.play.specs.declared.kinds.Side.{Side}
 use Rattle.play.specs.declared.kinds.Side.TheVariants.{Left, Right}
 use Rattle.play.specs.declared.kinds.Sort.{Sort}
 use Rattle.play.specs.declared.kinds.Lead.{Lead}
-use Rattle.play.specs.declared.refusals.LeadRefusal.{LeadRefusal}
-use Rattle.play.specs.declared.refusals.AnswerRefusal.{AnswerRefusal}
-use Rattle.play.specs.declared.refusals.WithdrawRefusal.{WithdrawRefusal}
+use Rattle.play.specs.declared.refusals.lead.LeadRefusal.{LeadRefusal}
+use Rattle.play.specs.declared.refusals.answer.AnswerRefusal.{AnswerRefusal}
+use Rattle.play.specs.declared.refusals.withdraw.WithdrawRefusal.{WithdrawRefusal}
 use Rattle.play.specs.Kinds.{across, lead_of}
 use Rattle.play.specs.Moves.{moved, undone, total, bare}
 use Rattle.play.specs.States.{Sides, Board, opened, bare_board, seated, marking, with_marking, owes}

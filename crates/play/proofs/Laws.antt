@@ -3,9 +3,9 @@ use Rattle.std.proofs.Common.{◌≡◌, ℕ, List, [], ◌∷◌, Ok, Err, Resu
 use Rattle.play.specs.declared.kinds.Side.{Side}
 use Rattle.play.specs.declared.kinds.Sort.{Sort}
 use Rattle.play.specs.declared.kinds.Lead.{Lead}
-use Rattle.play.specs.declared.refusals.LeadRefusal.{LeadRefusal}
-use Rattle.play.specs.declared.refusals.AnswerRefusal.{AnswerRefusal}
-use Rattle.play.specs.declared.refusals.WithdrawRefusal.{WithdrawRefusal}
+use Rattle.play.specs.declared.refusals.lead.LeadRefusal.{LeadRefusal}
+use Rattle.play.specs.declared.refusals.answer.AnswerRefusal.{AnswerRefusal}
+use Rattle.play.specs.declared.refusals.withdraw.WithdrawRefusal.{WithdrawRefusal}
 use Rattle.play.specs.States.{Sides, Board, State, closed, opened, bare_board}
 use Rattle.play.specs.Calls.{if_ok, lead_says, led_to, led, answer_says, answered, withdraw_says, withdrawn, Call, lead, answer, withdraw, run}
 use Rattle.play.specs.Fairness.{Fair, StaysFair, Within, StaysWithin, Withdraws, StaysWithdrawable}

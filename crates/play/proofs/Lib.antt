@@ -11,5 +11,4 @@ pub mod Fair
 pub mod Suggestions
 pub mod Rooms
 pub mod Withdrawals
-pub mod Tables
 pub mod Laws

@@ -1,8 +1,8 @@
 -- Moves on one side: what a marking has at each place before and after a move.
-use Rattle.std.proofs.Common.{◌≡◌, ℕ, ◌+◌, ◌-◌, ◌<◌, ◌≤◌, true, false, List, length, sym, ◌∙◌, ⊎_elim, arith}
+use Rattle.std.proofs.Common.{◌≡◌, ℕ, ◌+◌, ◌-◌, ◌<◌, ◌≤◌, true, List, length, sym, ◌∙◌, arith}
 use Rattle.std.proofs.lemmas.List.{ext_get_or}
 use Rattle.std.proofs.lemmas.List.FromFn.{length-map-range_with_len, get_or-map-range_with_len}
-use Rattle.std.proofs.lemmas.Bool.{cases_Bool, leb-true, le-leb}
+use Rattle.std.proofs.lemmas.Bool.{leb-true, le-leb}
 use Rattle.finite.specs.Injections.{tabulate}
 use Rattle.finite.proofs.Tests.{all_at, all_from}
 use Rattle.net.specs.Model.{Model}
@@ -45,10 +45,6 @@ covers_at m marking k i h x l = leb-true _ _ (all_at m.places _ h x l)
 pub covers_from : (m : Model) (marking : List ℕ) (k : Sort) (i : ℕ) → ((x : ℕ) → x < m.places → takes m k i x ≤ at marking x) → covers m marking k i ≡ true
 unfolding covers
 covers_from m marking k i h = all_from m.places _ (λ x l. le-leb _ _ (h x l))
-
--- a marking that lacks a token that the move takes does not cover it
-pub covers_fails : (m : Model) (marking : List ℕ) (k : Sort) (i x : ℕ) → x < m.places → at marking x < takes m k i x → covers m marking k i ≡ false
-covers_fails m marking k i x l h = ⊎_elim (λ e. absurd (let z = covers_at m marking k i e x l in omega arith)) (λ e. e) (cases_Bool (covers m marking k i))
 
 -- what was given is there to be taken back
 pub moved_gives : (m : Model) (marking : List ℕ) (k : Sort) (i x : ℕ) → x < m.places → gives m k i x ≤ at (moved m marking k i) x

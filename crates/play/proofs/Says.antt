@@ -1,12 +1,11 @@
 -- What it takes for a move to be accepted, as a lead and as an answer.
-use Rattle.std.proofs.Common.{◌≡◌, ℕ, ◌<◌, ◌≤◌, true, cond, eqb, ltb, List, Some, Ok, Err, Option, Result, sym, ◌∙◌, ⊎_elim, arith}
-use Rattle.std.proofs.lemmas.Bool.{cases_Bool, eqb-true, eq-eqb, ltb-true, ltb-false, lt-ltb, le-ltb, cond-true, cond-false, cond_both}
+use Rattle.std.proofs.Common.{◌≡◌, ℕ, ◌<◌, ◌≤◌, true, cond, eqb, ltb, List, Some, Ok, Err, Option, Result, sym, ◌∙◌, ⊎_elim}
+use Rattle.std.proofs.lemmas.Bool.{cases_Bool, eqb-true, eq-eqb, ltb-true, ltb-false, lt-ltb, cond-true, cond-false, cond_both}
 use Rattle.arrangement.specs.Seats.{Seated}
 use Rattle.play.specs.declared.kinds.Sort.{Sort}
 use Rattle.play.specs.declared.kinds.Lead.{Lead}
-use Rattle.play.specs.declared.refusals.LeadRefusal.{LeadRefusal}
-use Rattle.play.specs.declared.refusals.LeadRefusal.TheVariants.{TooManyTokens}
-use Rattle.play.specs.declared.refusals.AnswerRefusal.{AnswerRefusal}
+use Rattle.play.specs.declared.refusals.lead.LeadRefusal.{LeadRefusal}
+use Rattle.play.specs.declared.refusals.answer.AnswerRefusal.{AnswerRefusal}
 use Rattle.play.specs.Moves.{most_tokens, numbers, seat_of, covers, moved, total}
 use Rattle.play.specs.States.{owes}
 use Rattle.play.specs.Calls.{move_says, reply_says}
@@ -14,21 +13,11 @@ use Rattle.play.proofs.Leads.{owes_is}
 
 -- a refusal is no acceptance
 pub err_not_ok : {T F X : Type 0} (f : F) (v : T) → ◌≡◌ {A = Result T F} (Err f) (Ok v) → X
-err_not_ok f v e = absurd (let z : ◌≡◌ {A = ℕ} 0 1 = cc in omega arith)
+err_not_ok f v e = cc
 
 -- two acceptances that are equal accept with the same
 ok_same : (a b : ℕ) → ◌≡◌ {A = Result ℕ LeadRefusal} (Ok a) (Ok b) → a ≡ b
 ok_same a b e = cc
-
--- the move of a lead is accepted where there is such a number, it is covered and it leaves the side within the limit
-pub move_goes : (s : Seated) (m : List ℕ) (k : Sort) (i : ℕ) → i < numbers s.net k → covers s.net m k i ≡ true →
-    total s.net (moved s.net m k i) ≤ most_tokens → move_says s m k i ≡ Ok (seat_of s k i)
-move_goes s m k i a c r = cond-true _ _ _ (lt-ltb _ _ a) ∙ cond-true _ _ _ c ∙ cond-false _ _ _ (le-ltb _ _ r)
-
--- it is refused where it would pass the limit
-pub move_too_many : (s : Seated) (m : List ℕ) (k : Sort) (i : ℕ) → i < numbers s.net k → covers s.net m k i ≡ true →
-    most_tokens < total s.net (moved s.net m k i) → move_says s m k i ≡ Err TooManyTokens
-move_too_many s m k i a c r = cond-true _ _ _ (lt-ltb _ _ a) ∙ cond-true _ _ _ c ∙ cond-true _ _ _ (lt-ltb _ _ r)
 
 -- what an accepted move of a lead is
 pub move_ok : (s : Seated) (m : List ℕ) (k : Sort) (i seat : ℕ) → move_says s m k i ≡ Ok seat →

@@ -1,11 +1,9 @@
 -- What is suggested is accepted as an answer to what is owed.
-use Rattle.std.proofs.Common.{◌≡◌, ℕ, ◌<◌, true, Some, Ok, Err, Result, refl, ap}
-use Rattle.std.proofs.lemmas.Bool.{false≢true}
+use Rattle.std.proofs.Common.{◌≡◌, ℕ, ◌<◌, Some, Ok, ap}
 use Rattle.finite.specs.Below.{first_below}
 use Rattle.finite.proofs.Given.{given}
 use Rattle.finite.proofs.Searches.{Found, first_finds}
 use Rattle.play.specs.declared.kinds.Lead.{Lead}
-use Rattle.play.specs.declared.refusals.AnswerRefusal.{AnswerRefusal}
 use Rattle.play.specs.Kinds.{across}
 use Rattle.play.specs.Moves.{numbers}
 use Rattle.play.specs.States.{Sides, Board, opened, seated, marking}
@@ -13,11 +11,6 @@ use Rattle.play.specs.Calls.{accepted, answer_says}
 use Rattle.play.specs.Invariant.{Kept}
 use Rattle.play.proofs.Says.{owed_ok, reply_ok}
 use Rattle.play.proofs.Fair.{kept_answers}
-
--- an answer is accepted exactly where the test says so
-pub accepted_ok : (v : Result (Unit {0}) AnswerRefusal) → accepted v ≡ true → v ≡ Ok tt
-accepted_ok (Ok u) e = refl
-accepted_ok (Err f) e = absurd (false≢true e)
 
 -- an accepted answer's number is a number of the answering side
 pub answer_there : (sides : Sides) (b : Board) (d : Lead) (i : ℕ) → answer_says (opened sides b) d i ≡ Ok tt → i < numbers (seated sides (across d.side)).net d.sort

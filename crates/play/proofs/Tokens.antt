@@ -1,5 +1,5 @@
 -- Markings held at the front of a longer list, as loops over places write and sum them.
-use Rattle.std.proofs.Common.{◌≡◌, ℕ, ◌+◌, ◌-◌, ◌<◌, ◌≤◌, List, length, take, set, sym, ap, ◌∙◌, subst, ⊎_elim, arith}
+use Rattle.std.proofs.Common.{◌≡◌, ℕ, ◌+◌, ◌-◌, ◌<◌, ◌≤◌, List, length, take, set, sym, ◌∙◌, subst, ⊎_elim, arith}
 use Rattle.std.proofs.lemmas.List.{ext_get_or, get_or-take, length-take-le, get_or-set_same, get_or-set_other}
 use Rattle.std.proofs.lemmas.Bool.{cases_eq}
 use Rattle.finite.specs.Below.{sum_below}
@@ -35,10 +35,6 @@ is_undone m marking ts k i l h =
 -- all that is held
 pub held_total : (n : ℕ) (ts : List ℕ) → sum_below n (at (take n ts)) ≡ sum_below n (at ts)
 held_total n ts = sum_same n _ _ (λ x l. at_held ts n x l)
-
--- all that a list holds, where what it holds is known
-pub total_of : (n : ℕ) (ts marking : List ℕ) → take n ts ≡ marking → sum_below n (at ts) ≡ sum_below n (at marking)
-total_of n ts marking e = sym (held_total n ts) ∙ ap (λ (l : List ℕ). sum_below n (at l)) e
 
 -- one more value is written
 pub write_more : (ts : List ℕ) (x v : ℕ) (f : ℕ → ℕ) → x < length ts → v ≡ f x → ((y : ℕ) → y < x → at ts y ≡ f y) → (y : ℕ) → y < x + 1 → at (set ts x v) y ≡ f y

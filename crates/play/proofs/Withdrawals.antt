@@ -6,8 +6,8 @@ use Rattle.play.specs.declared.kinds.Side.{Side}
 use Rattle.play.specs.declared.kinds.Side.TheVariants.{Left, Right}
 use Rattle.play.specs.declared.kinds.Sort.{Sort}
 use Rattle.play.specs.declared.kinds.Lead.{Lead}
-use Rattle.play.specs.declared.refusals.LeadRefusal.{LeadRefusal}
-use Rattle.play.specs.declared.refusals.WithdrawRefusal.{WithdrawRefusal}
+use Rattle.play.specs.declared.refusals.lead.LeadRefusal.{LeadRefusal}
+use Rattle.play.specs.declared.refusals.withdraw.WithdrawRefusal.{WithdrawRefusal}
 use Rattle.play.specs.Kinds.{lead_of}
 use Rattle.play.specs.Moves.{moved, undone}
 use Rattle.play.specs.States.{Sides, Board, opened, seated, marking, with_marking}

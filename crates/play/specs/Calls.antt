@@ -4,12 +4,12 @@ use Rattle.arrangement.specs.Seats.{Seated}
 use Rattle.play.specs.declared.kinds.Side.{Side}
 use Rattle.play.specs.declared.kinds.Sort.{Sort}
 use Rattle.play.specs.declared.kinds.Lead.{Lead}
-use Rattle.play.specs.declared.refusals.LeadRefusal.{LeadRefusal}
-use Rattle.play.specs.declared.refusals.LeadRefusal.TheVariants as lead_refusal
-use Rattle.play.specs.declared.refusals.AnswerRefusal.{AnswerRefusal}
-use Rattle.play.specs.declared.refusals.AnswerRefusal.TheVariants as answer_refusal
-use Rattle.play.specs.declared.refusals.WithdrawRefusal.{WithdrawRefusal}
-use Rattle.play.specs.declared.refusals.WithdrawRefusal.TheVariants as withdraw_refusal
+use Rattle.play.specs.declared.refusals.lead.LeadRefusal.{LeadRefusal}
+use Rattle.play.specs.declared.refusals.lead.LeadRefusal.TheVariants as lead_refusal
+use Rattle.play.specs.declared.refusals.answer.AnswerRefusal.{AnswerRefusal}
+use Rattle.play.specs.declared.refusals.answer.AnswerRefusal.TheVariants as answer_refusal
+use Rattle.play.specs.declared.refusals.withdraw.WithdrawRefusal.{WithdrawRefusal}
+use Rattle.play.specs.declared.refusals.withdraw.WithdrawRefusal.TheVariants as withdraw_refusal
 use Rattle.play.specs.Kinds.{across, lead_of}
 use Rattle.play.specs.Moves.{most_tokens, numbers, seat_of, covers, moved, undone, total}
 use Rattle.play.specs.States.{Sides, Board, State, closed, opened, seated, marking, with_marking, owes}

@@ -5,9 +5,9 @@ use Rattle.arrangement.specs.Seats.{Sits}
 use Rattle.play.specs.declared.kinds.Side.{Side}
 use Rattle.play.specs.declared.kinds.Sort.{Sort}
 use Rattle.play.specs.declared.kinds.Lead.{Lead}
-use Rattle.play.specs.declared.refusals.LeadRefusal.{LeadRefusal}
-use Rattle.play.specs.declared.refusals.AnswerRefusal.{AnswerRefusal}
-use Rattle.play.specs.declared.refusals.WithdrawRefusal.{WithdrawRefusal}
+use Rattle.play.specs.declared.refusals.lead.LeadRefusal.{LeadRefusal}
+use Rattle.play.specs.declared.refusals.answer.AnswerRefusal.{AnswerRefusal}
+use Rattle.play.specs.declared.refusals.withdraw.WithdrawRefusal.{WithdrawRefusal}
 use Rattle.play.specs.States.{Sides, State, opened, bare_board}
 use Rattle.play.specs.Calls.{lead_says, led, answer_says, answered, withdraw_says, withdrawn}
 use Rattle.play.specs.Fairness.{StaysFair, StaysWithin, StaysWithdrawable}

@@ -1,13 +1,13 @@
 -- The numbers of the refusals of calls on a table. Assumes nothing.
 use Rattle.std.specs.Prelude.{ℕ}
-use Rattle.play.specs.declared.refusals.LeadRefusal.{LeadRefusal}
-use Rattle.play.specs.declared.refusals.LeadRefusal.TheVariants as lead
-use Rattle.play.specs.declared.refusals.AnswerRefusal.{AnswerRefusal}
-use Rattle.play.specs.declared.refusals.AnswerRefusal.TheVariants as answer
-use Rattle.play.specs.declared.refusals.WithdrawRefusal.{WithdrawRefusal}
-use Rattle.play.specs.declared.refusals.WithdrawRefusal.TheVariants as withdraw
-use Rattle.play.specs.declared.refusals.ShowRefusal.{ShowRefusal}
-use Rattle.play.specs.declared.refusals.ShowRefusal.TheVariants as show
+use Rattle.play.specs.declared.refusals.lead.LeadRefusal.{LeadRefusal}
+use Rattle.play.specs.declared.refusals.lead.LeadRefusal.TheVariants as lead
+use Rattle.play.specs.declared.refusals.answer.AnswerRefusal.{AnswerRefusal}
+use Rattle.play.specs.declared.refusals.answer.AnswerRefusal.TheVariants as answer
+use Rattle.play.specs.declared.refusals.withdraw.WithdrawRefusal.{WithdrawRefusal}
+use Rattle.play.specs.declared.refusals.withdraw.WithdrawRefusal.TheVariants as withdraw
+use Rattle.play.specs.declared.refusals.show.ShowRefusal.{ShowRefusal}
+use Rattle.play.specs.declared.refusals.show.ShowRefusal.TheVariants as show
 
 abbrev pub lead_number : LeadRefusal → ℕ
 lead_number lead.Closed = 42

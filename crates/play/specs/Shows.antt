@@ -6,8 +6,8 @@ use Rattle.arrangement.specs.Arrangements.{at}
 use Rattle.play.specs.declared.kinds.Side.{Side}
 use Rattle.play.specs.declared.kinds.Sort.TheVariants.{Fire}
 use Rattle.play.specs.declared.kinds.Lead.{Lead}
-use Rattle.play.specs.declared.refusals.ShowRefusal.{ShowRefusal}
-use Rattle.play.specs.declared.refusals.ShowRefusal.TheVariants.{Closed}
+use Rattle.play.specs.declared.refusals.show.ShowRefusal.{ShowRefusal}
+use Rattle.play.specs.declared.refusals.show.ShowRefusal.TheVariants.{Closed}
 use Rattle.play.specs.Kinds.{across}
 use Rattle.play.specs.Moves.{numbers, covers}
 use Rattle.play.specs.States.{Sides, Board, State, closed, opened, seated, marking}

@@ -2,8 +2,7 @@
 ghost use Rattle.play.specs.Laws.{PlayLaw};
 
 // What is proved of every table between two nets that sit on one net, after any calls.
-pub fn play_stands() -> u8
+#[tactic(auto, using(crate::proofs::Laws::play_law))]
+pub fn play_stands()
     ensures { PlayLaw }
-{
-    0
-}
+{}

@@ -1,2 +1,4 @@
+pub mod Heads
+pub mod Offsets
 pub mod Refusals
 pub mod Readers

@@ -4,4 +4,4 @@ use Rattle.format.specs.Sheets.{net_of}
 use Rattle.reader.specs.declared.sheet.SheetReader.{SheetReader}
 
 abbrev pub read_net : SheetReader → Model
-read_net r = net_of r.bytes.now
+read_net r = net_of r.fields.bytes.now

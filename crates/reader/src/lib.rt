@@ -3,6 +3,9 @@
 
 mod bits;
 mod check;
-mod offsets;
+mod fields;
+mod head;
 pub mod refusal;
+mod row;
 pub mod sheet;
+mod widths;

@@ -1,5 +1,2 @@
-mod Decimals
-mod Framing
-mod Growth
 mod Ignored
 mod Telling

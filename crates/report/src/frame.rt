@@ -5,19 +5,14 @@ ghost use Rattle.report.specs.Frames.{framed, sheet_in, after_frame};
 use format::LONGEST_SHEET;
 
 // The sheet in the frame at the front of the bytes, and the bytes after the frame, if a whole frame stands there.
+#[tactic(auto, unfolding(crate::specs::Frames::framed))]
 pub(crate) fn split_frame(bytes: &[u8]) -> Option<(&[u8], &[u8])>
     ensures { MatchOption result (framed bytes.now ≡ false) (λ p. (framed bytes.now ≡ true) × (p.0.now ≡ sheet_in bytes.now) × (p.1.now ≡ after_frame bytes.now)) }
 {
-    if bytes.len() < 2 {
-        return None;
-    }
-    let length = 256 * bytes[0] as usize + bytes[1] as usize;
+    let (length, rest) = bytes.split_first_chunk::<2>()?;
+    let length = usize::from(u16::from_be_bytes(*length));
     if length > LONGEST_SHEET {
         return None;
     }
-    let end = 2 + length;
-    if end > bytes.len() {
-        return None;
-    }
-    Some((&bytes[2..end], &bytes[end..]))
+    rest.split_at_checked(length)
 }

@@ -1,54 +1,56 @@
 // The line of a side.
-ghost use Rattle.std.specs.Prelude.{◌+◌, ◌≤◌, [], ◌∷◌, ◌++◌, decimal};
+ghost use Rattle.std.specs.Prelude.{◌≡◌, ◌<◌, [], ◌∷◌, ◌++◌, decimal};
 ghost use Rattle.report.specs.Listing.{numbers_line, refused_line};
 ghost use Rattle.report.specs.Sides.{number_of, numbers_of, line_of};
-ghost use Rattle.report.specs.Texts.{Grows};
 
 use super::side::{Counts, Side, SideRefusal};
-use super::text::Text;
+use arrayvec::ArrayString;
+use itoa::Buffer;
 
-// Writes a number and the byte that ends it.
-fn push_column(text: &mut Text, n: u8, end: u8)
-    requires { text.old.used + 4 ≤ 64 }
-    ensures grows { Grows text.old (decimal n ++ end ∷ []) text.new }
-    ensures short { text.new.used ≤ text.old.used + 4 }
+// A line of at most 24 bytes.
+pub(crate) type Line = ArrayString<24>;
+
+// A number and the character that ends it.
+fn column(n: u8, end: char) -> ArrayString<4>
+    requires { end < 128 }
+    ensures { result.bytes ≡ decimal n ++ end ∷ [] }
 {
-    text.push_number(n as u16);
-    text.push(end);
+    let mut column = ArrayString::new();
+    column.push_str(Buffer::new().format(n));
+    column.push(end);
+    column
 }
 
-// Writes what is counted of a net, in a line of at most 24 bytes.
-fn push_counts(text: &mut Text, counts: Counts)
-    requires { text.old.used + 24 ≤ 64 }
-    ensures grows { Grows text.old (numbers_line (numbers_of counts)) text.new }
-    ensures short { text.new.used ≤ text.old.used + 24 }
+// What is counted of a net. A report cannot fail, and no clause of `write!` says that it succeeds: so each column is pushed.
+// Five calls, since a loop over the columns asks for an invariant that says how many are written, and is no plainer.
+fn counts_line(counts: Counts) -> Line
+    ensures { result.bytes ≡ numbers_line (numbers_of counts) }
 {
-    push_column(text, counts.places, b' ');
-    push_column(text, counts.transitions, b' ');
-    push_column(text, counts.folded_places, b' ');
-    push_column(text, counts.folded_transitions, b' ');
-    push_column(text, counts.rounds, b'\n');
+    let mut line = Line::new();
+    line.push_str(column(counts.places, ' ').as_str());
+    line.push_str(column(counts.transitions, ' ').as_str());
+    line.push_str(column(counts.folded_places, ' ').as_str());
+    line.push_str(column(counts.folded_transitions, ' ').as_str());
+    line.push_str(column(counts.rounds, '\n').as_str());
+    line
 }
 
-// Writes what refuses a side, in a line of at most 24 bytes.
-fn push_refusal(text: &mut Text, refusal: SideRefusal)
-    requires { text.old.used + 24 ≤ 64 }
-    ensures grows { Grows text.old (refused_line (number_of refusal)) text.new }
-    ensures short { text.new.used ≤ text.old.used + 24 }
+// What refuses a side.
+fn refusal_line(refusal: SideRefusal) -> Line
+    ensures { result.bytes ≡ refused_line (number_of refusal) }
 {
-    text.push_all(b"refused ");
-    text.push_number(refusal.number() as u16);
-    text.push(b'\n');
+    let mut line = Line::new();
+    line.push_str("refused ");
+    line.push_str(column(refusal.number(), '\n').as_str());
+    line
 }
 
-// Writes the line of a side, of at most 24 bytes.
-pub(crate) fn push_line(text: &mut Text, side: Side)
-    requires { text.old.used + 24 ≤ 64 }
-    ensures grows { Grows text.old (line_of side) text.new }
-    ensures short { text.new.used ≤ text.old.used + 24 }
+// The line of a side.
+pub(crate) fn side_line(side: Side) -> Line
+    ensures { result.bytes ≡ line_of side }
 {
     match side {
-        Ok(counts) => push_counts(text, counts),
-        Err(refusal) => push_refusal(text, refusal),
+        Ok(counts) => counts_line(counts),
+        Err(refusal) => refusal_line(refusal),
     }
 }

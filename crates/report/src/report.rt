@@ -6,9 +6,10 @@ ghost use Rattle.report.specs.Sides.{Tells};
 ghost use Rattle.report.specs.Texts.{text_of};
 
 use super::frame::split_frame;
-use super::line::push_line;
+use super::line::side_line;
 use super::side::{Side, SideRefusal, read_frame, read_sheet};
 use super::text::Text;
+use arrayvec::ArrayString;
 use format::LONGEST_SHEET;
 
 /// As many bytes of an input as can count: two frames, each with the longest sheet.
@@ -26,13 +27,14 @@ fn read_sides(input: &[u8]) -> (Side, Side)
 }
 
 /// The report on an input: a line for the left side, then one for the right. Bytes past the limit do not count.
+#[tactic(auto, using(crate::proofs::Telling::tells_line, crate::proofs::Ignored::listing_more), unfolding(crate::specs::Listing::listing_of))]
 pub fn report(input: &[u8]) -> Text
     ensures bytes { text_of result ≡ listing_of input.now }
     ensures ignored { Suffices INPUT_LIMIT input.now }
 {
     let (left, right) = read_sides(input);
-    let mut text = Text::new();
-    push_line(&mut text, left);
-    push_line(&mut text, right);
-    text
+    let mut text = ArrayString::new();
+    text.push_str(side_line(left).as_str());
+    text.push_str(side_line(right).as_str());
+    Text { text }
 }

@@ -1,6 +1,7 @@
 // One side of the report.
 ghost use Rattle.std.specs.Prelude.{◌≡◌};
 ghost use Rattle.format.specs.Sheets.{sheet_refusal};
+ghost use Rattle.report.specs.declared.side.SideRefusal.TheVariants.{Sheet};
 ghost use Rattle.report.specs.Frames.{sheet_in, left_refusal};
 ghost use Rattle.report.specs.Listing.{net_numbers};
 ghost use Rattle.report.specs.Sides.{number_of, numbers_of, Tells};
@@ -26,10 +27,19 @@ impl SideRefusal {
     pub(crate) fn number(self) -> u8
         ensures { result ≡ number_of self }
     {
+        // No discriminant and `self as u8`, as in a refusal of plain variants: here a variant carries a refusal.
         match self {
             SideRefusal::Frame => 51,
             SideRefusal::Sheet(refusal) => refusal.number(),
         }
+    }
+}
+
+impl From<SheetRefusal> for SideRefusal {
+    ghost from_gives = { λ refusal side. side ≡ Sheet refusal };
+
+    fn from(refusal: SheetRefusal) -> SideRefusal {
+        SideRefusal::Sheet(refusal)
     }
 }
 
@@ -66,18 +76,14 @@ pub(crate) fn read_sheet(sheet: &[u8]) -> Side
     ensures { Tells result (sheet_refusal sheet.now) sheet.now }
 {
     let mut reader = SheetReader::new();
-    match reader.open(sheet) {
-        Ok(()) => Ok(count(&reader)),
-        Err(refusal) => Err(SideRefusal::Sheet(refusal)),
-    }
+    reader.open(sheet)?;
+    Ok(count(&reader))
 }
 
 // The side of the frame at the front of the bytes.
 pub(crate) fn read_frame(bytes: &[u8]) -> Side
     ensures { Tells result (left_refusal bytes.now) (sheet_in bytes.now) }
 {
-    match split_frame(bytes) {
-        Some((sheet, _)) => read_sheet(sheet),
-        None => Err(SideRefusal::Frame),
-    }
+    let (sheet, _) = split_frame(bytes).ok_or(SideRefusal::Frame)?;
+    read_sheet(sheet)
 }

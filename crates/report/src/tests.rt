@@ -1,14 +1,15 @@
 // Reports on a few inputs.
 use super::report::report;
-use super::text::Text;
+use arrayvec::ArrayString;
+use itoa::Buffer;
 use std::test::Fail;
 
 #[test]
 fn numbers(rt: HostRuntime) -> Result<(), Fail> {
-    let mut text = Text::new();
-    text.push_number(0);
-    text.push_number(40320);
-    text.push_number(65535);
+    let mut text = ArrayString::<64>::new();
+    text.push_str(Buffer::new().format(0u16));
+    text.push_str(Buffer::new().format(40320u16));
+    text.push_str(Buffer::new().format(65535u16));
     assert_eq!(rt; text.as_bytes(), b"04032065535".as_slice());
     Ok(())
 }

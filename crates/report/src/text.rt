@@ -1,13 +1,21 @@
-// A short text of bytes.
+// The text of a report.
 ghost use Rattle.std.specs.Prelude.{◌≡◌, ◌≤◌, length};
+ghost use Rattle.report.specs.Texts.{text_of};
 
-mod methods;
+use arrayvec::ArrayString;
 
-/// As many bytes as a report can have, of which the first are in use.
+/// The text of a report, of at most 64 bytes.
 #[derive(Clone, Copy)]
 pub struct Text {
-    bytes: [u8; 64],
-    used: usize,
-    ghost inside: { used ≤ 64 },
-    ghost whole: { length bytes ≡ 64 },
+    pub(crate) text: ArrayString<64>,
+}
+
+impl Text {
+    /// The bytes of the text.
+    pub fn as_bytes(&self) -> &[u8]
+        ensures value { result.now ≡ text_of self.now }
+        ensures fits { length result.now ≤ 64 }
+    {
+        self.text.as_bytes()
+    }
 }

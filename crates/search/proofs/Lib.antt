@@ -1,8 +1,9 @@
 mod Comparing
 mod Sorting
+mod Dividing
+mod Keys
 mod Standing
 mod LeastWeights
 mod LeastRows
-mod NewLabels
 mod Choosing
 mod Nodes

@@ -117,23 +117,23 @@ all_fixed N c r order rows l fixed a b oa ob = joined_cong _ _ N.transitions 0 (
     ap (row N a) (fixed a oa j (omega arith)).0 ∙ (fixed a oa j (omega arith)).1 ∙ sym (fixed b ob j (omega arith)).1 ∙ ap (row N b) (sym (fixed b ob j (omega arith)).0))
 
 -- the next transition is fixed too
-pub fixed_more : (N : Model) → Distinct N → (c e : ℕ → ℕ) (r : ℕ) (order next : ℕ → ℕ) (a x y : ℕ → ℕ) (k index : ℕ) → r < N.transitions → Injects order N.transitions N.transitions
-    → ((b : ℕ → ℕ) → OrderedBy N.places c b → Arrangement N b) → Fixed N c r order (λ j. row N a (order j)) → Chosen N c r order index y
-    → r ≤ k → k < N.transitions → LeastRow N (order k) c e x → row N x (order k) ≡ row N y (order index) → Swapped order next r k
+pub fixed_more : (N : Model) → Distinct N → (c e : ℕ → ℕ) (r : ℕ) (order next : ℕ → ℕ) (a x : ℕ → ℕ) (k : ℕ) → Injects order N.transitions N.transitions
+    → ((b : ℕ → ℕ) → OrderedBy N.places c b → Arrangement N b) → Fixed N c r order (λ j. row N a (order j)) → Chosen N c r order k x
+    → LeastRow N (order k) c e x → Swapped order next r k
     → Fixed N e (r + 1) next (λ j. row N x (next j))
-fixed_more N dist c e r order next a x y k index few all within fixed ch l m least same s b ob j h =
+fixed_more N dist c e r order next a x k all within fixed ch least s b ob j h =
+    let few : r < N.transitions = omega (arith, ch.late, ch.early) in
     let cb : OrderedBy N.places c b = least_coarse N (order k) c e x least b ob in
-    let cx : OrderedBy N.places c x = least_coarse N (order k) c e x least x least.orders in
     elim (cases_eq j r) [
       | inl z ↦
           let n : next j ≡ order k = ap next z ∙ s.0 in
           let row-b : row N b (order k) ≡ row N x (order k) = least_same N (order k) c e x least b ob in (
-            ap (standing N b) z ∙ least_stands N dist c r order (λ j. row N a (order j)) (row N y (order index)) few all within fixed ch.low b cb k l m (row-b ∙ same) ∙ sym n,
+            ap (standing N b) z ∙ least_stands N dist c r order (λ j. row N a (order j)) (row N x (order k)) few all within fixed ch.low b cb k ch.late ch.early row-b ∙ sym n,
             ap (row N b) n ∙ row-b ∙ ap (row N x) (sym n),
           )
       | inr z ↦
-          let n : next j ≡ order j = s.2 j z (λ v. omega arith) in (
+          let n : next j ≡ order j = s.2 j z (λ v. let l : r ≤ k = ch.late in omega arith) in (
             (fixed b cb j (omega arith)).0 ∙ sym n,
-            ap (row N b) n ∙ (fixed b cb j (omega arith)).1 ∙ sym (fixed x cx j (omega arith)).1 ∙ ap (row N x) (sym n),
+            ap (row N b) n ∙ (fixed b cb j (omega arith)).1 ∙ sym (fixed x ch.orders j (omega arith)).1 ∙ ap (row N x) (sym n),
           )
     ]

@@ -14,7 +14,6 @@ use Rattle.net.specs.Model.{Model}
 use Rattle.arrangement.specs.Arrangements.{Distinct, Arrangement, row, position, standing, rows_along}
 use Rattle.arrangement.proofs.Positions.{row_apart, standing_position, row_same, position_same}
 use Rattle.search.specs.Rows.{Sorted, rows_of}
-use Rattle.search.proofs.Comparing.{lower_at_most}
 
 -- the numbers below j, counted
 count_below_lem : (j n : ℕ) → j ≤ n → count_below n (λ k. ltb k j) ≡ j
@@ -56,6 +55,6 @@ rows_same N a b h = ap₂ (λ (r : ℕ → List ℕ) (q : ℕ → ℕ). flat_map
 pub sorted_rows : (N : Model) (a ts : ℕ → ℕ) → Distinct N → Arrangement N a → Sorted N a ts → rows_of N a ts ≡ rows_along N a
 sorted_rows N a ts d o s = joined_cong _ _ N.transitions 0 (λ j l m. ap (row N a) (sym (sorted_standing N a ts d o s j (omega arith))))
 
--- sorted rows that are lower are at most the others by position too
-pub sorted_lower : (N : Model) (a ts b us : ℕ → ℕ) → Distinct N → Arrangement N a → Sorted N a ts → Arrangement N b → Sorted N b us → lower (rows_of N a ts) (rows_of N b us) ≡ true → at_most (rows_along N a) (rows_along N b) ≡ true
-sorted_lower N a ts b us d oa sa ob sb h = lower_at_most _ _ (sym (ap₂ lower (sorted_rows N a ts d oa sa) (sorted_rows N b us d ob sb)) ∙ h)
+-- sorted rows that are at most others are so by position too
+pub sorted_at_most : (N : Model) (a ts b us : ℕ → ℕ) → Distinct N → Arrangement N a → Sorted N a ts → Arrangement N b → Sorted N b us → at_most (rows_of N a ts) (rows_of N b us) ≡ true → at_most (rows_along N a) (rows_along N b) ≡ true
+sorted_at_most N a ts b us d oa sa ob sb h = sym (ap₂ at_most (sorted_rows N a ts d oa sa) (sorted_rows N b us d ob sb)) ∙ h

@@ -1,7 +1,8 @@
 -- Cells: labels of the places, and the orders along which they do not fall. Assumes nothing.
-use Rattle.std.specs.Prelude.{◌≡◌, ℕ, ◌<◌, ◌≤◌, ◌⊎◌}
+use Rattle.std.specs.Prelude.{◌≡◌, ℕ, ◌<◌, ◌≤◌, ◌⊎◌, ◌↔◌, Bool, true}
 use Rattle.finite.specs.Injections.{Injects}
 use Rattle.net.specs.Model.{Model}
+use Rattle.search.specs.Sorting.{AnswersBy}
 
 -- x has each number below n once, and the labels c do not fall along it
 pub record OrderedBy (n : ℕ) (c x : ℕ → ℕ) : Type 0 where
@@ -12,9 +13,10 @@ pub record OrderedBy (n : ℕ) (c x : ℕ → ℕ) : Type 0 where
 abbrev pub KeyAtMost : (ℕ → ℕ) → (ℕ → ℕ) → ℕ → ℕ → Type 0
 KeyAtMost c w p q = (c p < c q) ⊎ ((c p ≡ c q) × (w p ≤ w q))
 
--- p and q have the same label in c and the same weight in w
-abbrev pub KeySame : (ℕ → ℕ) → (ℕ → ℕ) → ℕ → ℕ → Type 0
-KeySame c w p q = (c p ≡ c q) × (w p ≡ w q)
+-- the labels d order the numbers below n as the test does, whichever order it goes by; of a test that goes by no order it says
+-- nothing
+abbrev pub Labels : ℕ → (ℕ → ℕ → Bool → Type 0) → (ℕ → ℕ) → Type 0
+Labels n test d = (le : ℕ → ℕ → Bool) → AnswersBy n le test → (p q : ℕ) → p < n → q < n → (d p ≤ d q) ↔ (le p q ≡ true)
 
 -- the labels d order the numbers below n by c, and by w where c agrees
 pub record Finer (n : ℕ) (c w d : ℕ → ℕ) : Type 0 where

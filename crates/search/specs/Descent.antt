@@ -1,5 +1,5 @@
 -- One step of the search: which rows are fixed, and which comes next. Assumes nothing.
-use Rattle.std.specs.Prelude.{◌≡◌, ℕ, ◌<◌, ◌≤◌, true, List, length, ◌≢◌}
+use Rattle.std.specs.Prelude.{◌≡◌, ℕ, ◌<◌, ◌≤◌, true, List, length}
 use Rattle.finite.specs.Lexicographic.{at_most}
 use Rattle.net.specs.Model.{Model, most_places, most_transitions}
 use Rattle.arrangement.specs.Arrangements.{at, Arrangement, row, standing}
@@ -13,10 +13,6 @@ pub record Candidate (m : Model) (r : Ranking) : Type 0 where
   pub sorted : Sorted m (at r.places) (at r.transitions)
   pub places_long : length r.places ≡ most_places
   pub transitions_long : length r.transitions ≡ most_transitions
-
--- g is f with the values at i and j exchanged
-abbrev pub Exchanged : (ℕ → ℕ) → (ℕ → ℕ) → ℕ → ℕ → Type 0
-Exchanged f g i j = (g i ≡ f j) × (g j ≡ f i) × ((k : ℕ) → (k ≢ i) → (k ≢ j) → g k ≡ f k)
 
 -- each order by the labels c has the transitions ts at its first r positions, with the same rows
 abbrev pub Fixed : Model → (ℕ → ℕ) → ℕ → (ℕ → ℕ) → (ℕ → List ℕ) → Type 0

@@ -1,14 +1,9 @@
 -- The least arrangement of a net, with its transitions by their positions. Assumes nothing.
-use Rattle.std.specs.Prelude.{◌≡◌, ℕ, ◌<◌, ◌≤◌, true, length}
+use Rattle.std.specs.Prelude.{◌≡◌, ℕ, ◌<◌, true, length}
 use Rattle.finite.specs.Lexicographic.{at_most}
 use Rattle.net.specs.Model.{Model, most_places, most_transitions}
-use Rattle.drawing.specs.declared.arrays.Arrays.{Arrays}
 use Rattle.arrangement.specs.Arrangements.{at, Arrangement, standing, rows_along}
 use Rattle.search.specs.declared.ranking.Ranking.{Ranking}
-
--- the counts are within the limits, so that the arrays have a row for each transition and a weight for each place
-abbrev pub Small : Arrays → Type 0
-Small a = (a.places ≤ most_places) × (a.transitions ≤ most_transitions)
 
 -- The places are arranged, each transition stands at its position, and the rows of no arrangement are lower.
 pub record Ranked (m : Model) (r : Ranking) : Type 0 where

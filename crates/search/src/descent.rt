@@ -1,173 +1,140 @@
 // The search through the cells: the least row comes next, and the places are divided by it.
-ghost use Rattle.std.specs.Prelude.{◌≡◌, ℕ, ◌<◌, true, false};
+ghost use Rattle.std.specs.Prelude.{◌≡◌, ℕ, ◌+◌, ◌<◌, true, IfSome, IfNone};
 ghost use Rattle.finite.specs.Lexicographic.{lower, at_most};
 ghost use Rattle.finite.specs.Injections.{Injects};
 ghost use Rattle.drawing.specs.Arrays.{model_of};
 ghost use Rattle.arrangement.specs.Arrangements.{at, Arrangement, Distinct, row, rows_along};
-ghost use Rattle.search.specs.Ranked.{Small};
-ghost use Rattle.search.specs.Rows.{Within};
-ghost use Rattle.search.specs.Cells.{OrderedBy};
-ghost use Rattle.search.specs.Descent.{Candidate, Exchanged, Fixed, Chosen};
+ghost use Rattle.search.specs.Along.{numbers_of};
+ghost use Rattle.search.specs.Rows.{Compares};
+ghost use Rattle.search.specs.Cells.{OrderedBy, LeastRow};
+ghost use Rattle.search.specs.Descent.{Fixed, Chosen};
 
-use super::cells::{Cells, all_apart, least_row};
-use super::ranking::Ranking;
-use super::rows::{compare_all_rows, compare_rows, same_row, sort_rows};
-use drawing::arrays::Arrays;
+use super::cells::Cells;
+use super::found::Found;
+use super::rows::RowAlong;
 use std::cmp::Ordering;
 
-// An entry of an order of the transitions, and an order of the places along which the row of that transition is least.
+// A branch of the search: cells, and an order of the transitions, of which the first `fixed` have the first positions and the
+// same rows along each order of the cells (`rows`). The order has each transition once (`all`). Each order of the cells is an
+// arrangement (`arranged`), and no two transitions agree in label, cause and effect (`distinct`). The order is an array and no
+// struct with that fact: it is swapped at one place and sorted at another, each with its own count.
 #[derive(Clone, Copy)]
-struct Choice {
+pub(crate) struct Branch<'n> {
+    pub(crate) cells: Cells<'n>,
+    pub(crate) order: [u8; 128],
+    pub(crate) fixed: usize,
+    pub ghost distinct: { Distinct (model_of cells.net.now) },
+    pub ghost arranged: { (b : ℕ → ℕ) → OrderedBy cells.net.now.places (at cells.labels) b → Arrangement (model_of cells.net.now) b },
+    pub ghost all: { Injects (at order) cells.net.now.transitions cells.net.now.transitions },
+    pub ghost rows: { Fixed (model_of cells.net.now) (at cells.labels) fixed (at order) (λ j. row (model_of cells.net.now) (at cells.places) (at order j)) },
+}
+
+// The index of an entry of the order of the transitions, and the cells divided by the row of that transition.
+#[derive(Clone, Copy)]
+struct Choice<'n> {
     index: usize,
-    places: [u8; 64],
+    cells: Cells<'n>,
 }
 
-// The transition with the least row, from entry r of the order on, over all orders of the cells.
-fn choose(net: &Arrays, cells: &Cells, r: usize, order: &[u8; 128]) -> Choice
-    requires small { Small net.now }
-    requires few { r < net.now.transitions }
-    requires orders { OrderedBy net.now.places (at cells.now.labels) (at cells.now.places) }
-    requires all { Injects (at order.now) net.now.transitions net.now.transitions }
-    ensures { Chosen (model_of net.now) (at cells.now.labels) r (at order.now) result.index (at result.places) }
-{
-    let first = least_row(net, cells, order[r] as usize);
-    let mut index = r;
-    let mut places = first.places;
-    for k in r + 1..net.transitions as usize {
-        let t = order[k] as usize;
-        let least = order[index] as usize;
-        if net.transition_labels[least] < net.transition_labels[t] {
-            continue;
-        }
-        let next = least_row(net, cells, t);
-        match compare_rows(net, &next.places, t, &places, least) {
-            Ordering::Less => {
-                index = k;
-                places = next.places;
-            }
-            Ordering::Equal => {}
-            Ordering::Greater => {}
-        }
-    }
-    Choice { index, places }
-}
-
-// The order of the transitions with those at i and j exchanged.
-fn exchanged(order: &[u8; 128], i: usize, j: usize) -> [u8; 128]
-    requires first { i < 128 }
-    requires second { j < 128 }
-    ensures { Exchanged (at order.now) (at result) i j }
-{
-    let mut next = *order;
-    next[i] = order[j];
-    next[j] = order[i];
-    next
-}
-
-// Whether the best has the rows of the cells before r, and at r a row below that of t along the order x.
-fn beaten(
-    net: &Arrays,
-    cells: &Cells,
-    r: usize,
-    order: &[u8; 128],
-    x: &[u8; 64],
-    t: usize,
-    best: &Ranking,
-) -> bool
-    requires small { Small net.now }
-    requires few { r < net.now.transitions }
-    requires first { Within cells.now.places net.now.places 64 }
-    requires second { Within x.now net.now.places 64 }
-    requires third { Within best.now.places net.now.places 64 }
-    requires left { Within order.now net.now.transitions net.now.transitions }
-    requires right { Within best.now.transitions net.now.transitions net.now.transitions }
-    requires named { t < net.now.transitions }
-    ensures same { result ≡ true → (k : ℕ) → k < r → row (model_of net.now) (at best.now.places) (at best.now.transitions k) ≡ row (model_of net.now) (at cells.now.places) (at order.now k) }
-    ensures above { result ≡ true → lower (row (model_of net.now) (at best.now.places) (at best.now.transitions r)) (row (model_of net.now) (at x.now) t) ≡ true }
-{
-    for k in 0..r {
-        let u = best.transitions[k] as usize;
-        if !same_row(net, &best.places, u, &cells.places, order[k] as usize) {
-            return false;
-        }
-    }
-    match compare_rows(net, &best.places, best.transitions[r] as usize, x, t) {
-        Ordering::Less => true,
-        Ordering::Equal => false,
-        Ordering::Greater => false,
-    }
-}
-
-// Takes the arrangement a for the best where it is lower. The transitions are sorted from the order they have on entry.
-fn settle(net: &Arrays, a: &[u8; 64], order: &mut [u8; 128], best: &mut Ranking)
-    requires small { Small net.now }
-    requires distinct { Distinct (model_of net.now) }
-    requires arranged { Arrangement (model_of net.now) (at a.now) }
-    requires all { Injects (at order.old) net.now.transitions net.now.transitions }
-    requires good { Candidate (model_of net.now) best.old }
-    ensures all { Injects (at order.new) net.now.transitions net.now.transitions }
-    ensures good { Candidate (model_of net.now) best.new }
-    ensures better { at_most (rows_along (model_of net.now) (at best.new.places)) (rows_along (model_of net.now) (at best.old.places)) ≡ true }
-    ensures met { at_most (rows_along (model_of net.now) (at best.new.places)) (rows_along (model_of net.now) (at a.now)) ≡ true }
-{
-    sort_rows(net, a, order);
-    match compare_all_rows(net, a, order, &best.places, &best.transitions) {
-        Ordering::Less => {
-            *best = Ranking {
-                places: *a,
-                transitions: *order,
+impl<'n> Branch<'n> {
+    // The transition with the least row, from the first that is not fixed on, over all orders of the cells.
+    fn choose(&self) -> Choice<'n>
+        requires { self.now.fixed < self.now.cells.net.now.transitions }
+        ensures here { result.cells.net.now ≡ self.now.cells.net.now }
+        ensures chosen { Chosen (model_of self.now.cells.net.now) (at self.now.cells.labels) self.now.fixed (at self.now.order) result.index (at result.cells.places) }
+    {
+        let mut index = self.fixed;
+        let mut cells = self.cells.least_row(self.order[index] as usize);
+        // By index: the index of the least is the answer.
+        for k in self.fixed + 1..self.cells.net.transitions as usize {
+            let least = cells.row(self.order[index] as usize);
+            let Some((ordering, next)) = self.divided_at(k, &least) else {
+                continue;
             };
+            if ordering.is_lt() {
+                index = k;
+                cells = next;
+            }
         }
-        Ordering::Equal => {}
-        Ordering::Greater => {}
+        Choice { index, cells }
     }
-}
 
-// Goes through the orders of the cells, whose first r rows are those of the first r transitions of the order, and takes the
-// least for the best. `last` is the order of the transitions that was met last, from which the next one is sorted.
-pub(crate) fn descend(
-    net: &Arrays,
-    cells: &Cells,
-    r: usize,
-    order: &[u8; 128],
-    last: &mut [u8; 128],
-    best: &mut Ranking,
-)
-    requires small { Small net.now }
-    requires distinct { Distinct (model_of net.now) }
-    requires orders { OrderedBy net.now.places (at cells.now.labels) (at cells.now.places) }
-    requires within { (b : ℕ → ℕ) → OrderedBy net.now.places (at cells.now.labels) b → Arrangement (model_of net.now) b }
-    requires fixed { Fixed (model_of net.now) (at cells.now.labels) r (at order.now) (λ j. row (model_of net.now) (at cells.now.places) (at order.now j)) }
-    requires all { Injects (at order.now) net.now.transitions net.now.transitions }
-    requires listed { Injects (at last.old) net.now.transitions net.now.transitions }
-    requires good { Candidate (model_of net.now) best.old }
-    ensures listed { Injects (at last.new) net.now.transitions net.now.transitions }
-    ensures good { Candidate (model_of net.now) best.new }
-    ensures better { at_most (rows_along (model_of net.now) (at best.new.places)) (rows_along (model_of net.now) (at best.old.places)) ≡ true }
-    ensures least { (b : ℕ → ℕ) → OrderedBy net.now.places (at cells.now.labels) b → at_most (rows_along (model_of net.now) (at best.new.places)) (rows_along (model_of net.now) b) ≡ true }
-{
-    if r >= net.transitions as usize {
-        settle(net, &cells.places, last, best);
-        return;
-    }
-    if all_apart(net.places as usize, cells) {
-        settle(net, &cells.places, last, best);
-        return;
-    }
-    let choice = choose(net, cells, r, order);
-    let least = order[choice.index] as usize;
-    if beaten(net, cells, r, order, &choice.places, least, best) {
-        return;
-    }
-    for k in r..net.transitions as usize {
-        let t = order[k] as usize;
-        if net.transition_labels[least] < net.transition_labels[t] {
-            continue;
+    // The cells divided by the row of the transition at k, before them how that row compares with the least one; none where its
+    // label alone is above.
+    fn divided_at(&self, k: usize, least: &RowAlong) -> Option<(Ordering, Cells<'n>)>
+        requires within { k < self.now.cells.net.now.transitions }
+        requires here { least.now.net.now ≡ self.now.cells.net.now }
+        ensures here { IfSome result (λ d. d.1.net.now ≡ self.now.cells.net.now) }
+        ensures least { IfSome result (λ d. LeastRow (model_of self.now.cells.net.now) (at self.now.order k) (at self.now.cells.labels) (at d.1.labels) (at d.1.places)) }
+        ensures compared { IfSome result (λ d. Compares d.0 (row (model_of self.now.cells.net.now) (at d.1.places) (at self.now.order k)) (numbers_of least.now)) }
+        ensures above { let m = model_of self.now.cells.net.now in IfNone result (m.transition_label least.now.transition < m.transition_label (at self.now.order k)) }
+    {
+        let net = self.cells.net;
+        let transition = self.order[k] as usize;
+        if net.rows[least.transition].label < net.rows[transition].label {
+            return None;
         }
-        let next = least_row(net, cells, t);
-        if same_row(net, &next.places, t, &choice.places, least) {
-            let moved = exchanged(order, r, k);
-            descend(net, &next, r + 1, &moved, last, best);
+        let cells = self.cells.least_row(transition);
+        let ordering = cells.row(transition).compare(least);
+        Some((ordering, cells))
+    }
+
+    // Whether the best has the fixed rows, and then a row below the least one here.
+    fn beaten(&self, least: &RowAlong, found: &Found) -> bool
+        requires few { self.now.fixed < self.now.cells.net.now.transitions }
+        requires here { least.now.net.now ≡ self.now.cells.net.now }
+        requires there { found.now.net.now ≡ self.now.cells.net.now }
+        ensures same { let m = model_of self.now.cells.net.now in result ≡ true → (k : ℕ) → k < self.now.fixed → row m (at found.now.best.places) (at found.now.best.transitions k) ≡ row m (at self.now.cells.places) (at self.now.order k) }
+        ensures above { result ≡ true → lower (row (model_of self.now.cells.net.now) (at found.now.best.places) (at found.now.best.transitions self.now.fixed)) (numbers_of least.now) ≡ true }
+    {
+        (0..self.fixed).all(|k| {
+            let ours = self.cells.row(self.order[k] as usize);
+            found.best.row(found.net, k).compare(&ours).is_eq()
+        }) && found.best.row(found.net, self.fixed).compare(least).is_lt()
+    }
+
+    // The branch below this one with the transition at k fixed next, whose row is least, and the cells divided by that row.
+    fn below(&self, k: usize, cells: Cells<'n>) -> Branch<'n>
+        requires here { cells.net.now ≡ self.now.cells.net.now }
+        requires least { LeastRow (model_of self.now.cells.net.now) (at self.now.order k) (at self.now.cells.labels) (at cells.labels) (at cells.places) }
+        requires chosen { Chosen (model_of self.now.cells.net.now) (at self.now.cells.labels) self.now.fixed (at self.now.order) k (at cells.places) }
+        ensures cells { result.cells ≡ cells.entry }
+        ensures fixed { result.fixed ≡ self.now.fixed + 1 }
+    {
+        let mut order = self.order;
+        order.swap(self.fixed, k);
+        Branch {
+            cells,
+            order,
+            fixed: self.fixed + 1,
+        }
+    }
+
+    // Goes through the orders of the cells and takes the least for the best.
+    pub(crate) fn descend(&self, found: &mut Found)
+        requires { found.old.net.now ≡ self.now.cells.net.now }
+        ensures here { found.new.net.now ≡ found.old.net.now }
+        ensures better { let m = model_of self.now.cells.net.now in at_most (rows_along m (at found.new.best.places)) (rows_along m (at found.old.best.places)) ≡ true }
+        ensures least { let m = model_of self.now.cells.net.now in (b : ℕ → ℕ) → OrderedBy m.places (at self.now.cells.labels) b → at_most (rows_along m (at found.new.best.places)) (rows_along m b) ≡ true }
+    {
+        let transitions = self.cells.net.transitions as usize;
+        if self.fixed >= transitions || self.cells.all_apart() {
+            found.settle(&self.cells);
+            return;
+        }
+        let choice = self.choose();
+        let least = choice.cells.row(self.order[choice.index] as usize);
+        if self.beaten(&least, found) {
+            return;
+        }
+        // By index: the branch below exchanges the transition at k.
+        for k in self.fixed..transitions {
+            let Some((ordering, next)) = self.divided_at(k, &least) else {
+                continue;
+            };
+            if ordering.is_eq() {
+                self.below(k, next).descend(found);
+            }
         }
     }
 }

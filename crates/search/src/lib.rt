@@ -1,9 +1,11 @@
-// The search of the least arrangement of a net, row by row.
+// The search of the least arrangement of a net, row by row. (Numbers of places and transitions are read as indices by `as usize`:
+// `usize::from` was tried in every file, and the goals that read through it did not close.)
 #![tactic(auto)]
 
 mod cells;
 mod descent;
-mod first;
+mod found;
 pub mod least;
+mod order;
 pub mod ranking;
 mod rows;

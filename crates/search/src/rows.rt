@@ -1,133 +1,55 @@
-// Rows of transitions along an order of the places: comparing two of them, sorting all, and comparing all.
-ghost use Rattle.std.specs.Prelude.{◌≡◌, ◌<◌, ◌≤◌, true, false, length, ◌≢◌};
-ghost use Rattle.finite.specs.Lexicographic.{lower};
-ghost use Rattle.finite.specs.Injections.{Injects};
-ghost use Rattle.drawing.specs.Arrays.{model_of};
-ghost use Rattle.arrangement.specs.Arrangements.{at, row};
-ghost use Rattle.search.specs.Ranked.{Small};
-ghost use Rattle.search.specs.Rows.{Compares, weights_along, Within, Sorted, rows_of};
+// Rows of transitions along orders of the places.
+ghost use Rattle.std.specs.Prelude.{◌≡◌, ◌<◌, length, All};
+ghost use Rattle.search.specs.Rows.{Compares, weights_along, Within};
 
 use drawing::arrays::Arrays;
 use std::cmp::Ordering;
 
-// Compares the weights x along the order a with the weights y along the order b, n places of each.
-fn compare_weights(x: &[u8; 64], a: &[u8; 64], y: &[u8; 64], b: &[u8; 64], n: usize) -> Ordering
-    requires few { n ≤ 64 }
-    requires first { Within a.now n 64 }
-    requires second { Within b.now n 64 }
-    ensures { Compares result (weights_along x.now a.now n) (weights_along y.now b.now n) }
-{
-    for i in 0..n {
-        let v = x[a[i] as usize];
-        let w = y[b[i] as usize];
-        if v < w {
-            return Ordering::Less;
-        }
-        if w < v {
-            return Ordering::Greater;
-        }
-    }
-    Ordering::Equal
+// The row of a transition of a net along an order of the places: the numbers of that order are places (`within`), and the
+// transition is one of the net (`named`). Cells and a ranking each make it of the order that they hold.
+#[derive(Clone, Copy)]
+pub(crate) struct RowAlong<'n> {
+    pub(crate) net: &'n Arrays,
+    pub(crate) places: &'n [u8; 64],
+    pub(crate) transition: usize,
+    pub ghost within: { Within places.now net.now.places 64 },
+    pub ghost named: { transition < net.now.transitions },
 }
 
-// Compares the row of transition t along the order a with the row of transition u along the order b: the labels, then the
-// causes, then the effects.
-pub(crate) fn compare_rows(net: &Arrays, a: &[u8; 64], t: usize, b: &[u8; 64], u: usize) -> Ordering
-    requires small { Small net.now }
-    requires first { Within a.now net.now.places 64 }
-    requires second { Within b.now net.now.places 64 }
-    requires left { t < net.now.transitions }
-    requires right { u < net.now.transitions }
-    ensures { Compares result (row (model_of net.now) (at a.now) t) (row (model_of net.now) (at b.now) u) }
+// Compares the weights x along the order a with the weights y along the order b (of one length: a struct for weights and an order
+// would be made for these calls alone). `Iterator::cmp` says the same, and took half as
+// long again over the whole search: here most weights are equal, and are compared once.
+fn compare_weights(x: &[u8; 64], a: &[u8], y: &[u8; 64], b: &[u8]) -> Ordering
+    requires first { All (λ p. p < 64) a.now }
+    requires second { All (λ p. p < 64) b.now }
+    requires long { length b.now ≡ length a.now }
+    ensures { Compares result (weights_along x.now a.now) (weights_along y.now b.now) }
 {
-    let v = net.transition_labels[t];
-    let w = net.transition_labels[u];
-    if v < w {
-        return Ordering::Less;
-    }
-    if w < v {
-        return Ordering::Greater;
-    }
-    let n = net.places as usize;
-    match compare_weights(&net.causes[t], a, &net.causes[u], b, n) {
-        Ordering::Less => Ordering::Less,
-        Ordering::Greater => Ordering::Greater,
-        Ordering::Equal => compare_weights(&net.effects[t], a, &net.effects[u], b, n),
-    }
-}
-
-// Whether the row of t along the order a is the row of u along the order b.
-pub(crate) fn same_row(net: &Arrays, a: &[u8; 64], t: usize, b: &[u8; 64], u: usize) -> bool
-    requires small { Small net.now }
-    requires first { Within a.now net.now.places 64 }
-    requires second { Within b.now net.now.places 64 }
-    requires left { t < net.now.transitions }
-    requires right { u < net.now.transitions }
-    ensures same { result ≡ true → row (model_of net.now) (at a.now) t ≡ row (model_of net.now) (at b.now) u }
-    ensures other { result ≡ false → row (model_of net.now) (at a.now) t ≢ row (model_of net.now) (at b.now) u }
-{
-    match compare_rows(net, a, t, b, u) {
-        Ordering::Less => false,
-        Ordering::Equal => true,
-        Ordering::Greater => false,
-    }
-}
-
-// Whether the row of t stands before the row of u, both along the order a.
-fn row_lower(net: &Arrays, a: &[u8; 64], t: usize, u: usize) -> bool
-    requires small { Small net.now }
-    requires first { Within a.now net.now.places 64 }
-    requires left { t < net.now.transitions }
-    requires right { u < net.now.transitions }
-    ensures { result ≡ lower (row (model_of net.now) (at a.now) t) (row (model_of net.now) (at a.now) u) }
-{
-    match compare_rows(net, a, t, a, u) {
-        Ordering::Less => true,
-        Ordering::Equal => false,
-        Ordering::Greater => false,
-    }
-}
-
-// Sorts the transitions by their rows along the order a: by insertion, so that an order that is nearly right is cheap.
-pub(crate) fn sort_rows(net: &Arrays, a: &[u8; 64], order: &mut [u8; 128])
-    requires small { Small net.now }
-    requires within { Within a.now net.now.places 64 }
-    requires all { Injects (at order.old) net.now.transitions net.now.transitions }
-    ensures long { length order.new ≡ 128 }
-    ensures sorted { Sorted (model_of net.now) (at a.now) (at order.new) }
-{
-    for k in 0..net.transitions as usize {
-        let mut j = k;
-        while j > 0 && row_lower(net, a, order[j] as usize, order[j - 1] as usize) {
-            let t = order[j];
-            order[j] = order[j - 1];
-            order[j - 1] = t;
-            j -= 1;
-        }
-    }
-}
-
-// Compares the rows of the transitions ts along the order a with those of the transitions us along the order b.
-pub(crate) fn compare_all_rows(
-    net: &Arrays,
-    a: &[u8; 64],
-    ts: &[u8; 128],
-    b: &[u8; 64],
-    us: &[u8; 128],
-) -> Ordering
-    requires small { Small net.now }
-    requires first { Within a.now net.now.places 64 }
-    requires second { Within b.now net.now.places 64 }
-    requires left { Within ts.now net.now.transitions net.now.transitions }
-    requires right { Within us.now net.now.transitions net.now.transitions }
-    ensures { Compares result (rows_of (model_of net.now) (at a.now) (at ts.now)) (rows_of (model_of net.now) (at b.now) (at us.now)) }
-{
-    for j in 0..net.transitions as usize {
-        match compare_rows(net, a, ts[j] as usize, b, us[j] as usize) {
-            Ordering::Less => return Ordering::Less,
-            Ordering::Greater => return Ordering::Greater,
-            Ordering::Equal => {}
+    for (p, q) in a.iter().zip(b) {
+        let v = x[*p as usize];
+        let w = y[*q as usize];
+        if v != w {
+            return v.cmp(&w);
         }
     }
     Ordering::Equal
+}
+
+impl RowAlong<'_> {
+    ghost use Rattle.search.specs.Along.{numbers_of};
+
+    // Compares two rows of one net: the labels, then the causes, then the effects.
+    pub(crate) fn compare(&self, other: &RowAlong) -> Ordering
+        requires { other.now.net.now ≡ self.now.net.now }
+        ensures { Compares result (numbers_of self.now) (numbers_of other.now) }
+    {
+        let (net, ours, theirs) = (self.net, self.places, other.places);
+        let n = net.places as usize;
+        let (a, b) = (&ours[..n], &theirs[..n]);
+        let (x, y) = (&net.rows[self.transition], &net.rows[other.transition]);
+        x.label
+            .cmp(&y.label)
+            .then_with(|| compare_weights(&x.cause, a, &y.cause, b))
+            .then_with(|| compare_weights(&x.effect, a, &y.effect, b))
+    }
 }

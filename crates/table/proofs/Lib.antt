@@ -1,6 +1,8 @@
-mod Answers
-mod Boards
-mod Halves
-mod Leads
-mod Opening
-mod Suggestions
+pub mod Boards
+pub mod Shifts
+pub mod Leads
+pub mod Answers
+pub mod Suggestions
+pub mod Opening
+pub mod Tokens
+pub mod Ranges

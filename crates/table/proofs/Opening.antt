@@ -18,6 +18,7 @@ use Rattle.normal.specs.Counts.{most_arrangements}
 use Rattle.normal.specs.Reductions.{reduction_of, reduce_says, filled, reduced_buffer}
 use Rattle.normal.proofs.Says.{says_many, says_reduced}
 use Rattle.play.specs.Moves.{bare}
+use Rattle.play.specs.declared.kinds.Side.TheVariants.{Left, Right}
 use Rattle.play.specs.States.{Sides, opened, bare_board}
 use Rattle.play.specs.Fairness.{StaysFair}
 use Rattle.play.specs.Invariant.{Kept}
@@ -26,7 +27,7 @@ use Rattle.play.proofs.Laws.{stays_fair}
 use Rattle.play.proofs.Says.{err_not_ok}
 use Rattle.table.specs.declared.refusal.OpenRefusal.{OpenRefusal}
 use Rattle.table.specs.declared.refusal.OpenRefusal.TheVariants.{Differ}
-use Rattle.table.specs.Opening.{left_by, right_by, both_reduced, open_says, OpenedOn, AfterOpen, SheetsDecide}
+use Rattle.table.specs.Opening.{refused_on, both_reduced, open_says, OpenedOn, AfterOpen, SheetsDecide}
 use Rattle.table.specs.Views.{seated_of, held, sides_of, board_of}
 use Rattle.table.specs.declared.half.Half.{Half}
 use Rattle.table.specs.declared.table.Table.{Table}
@@ -43,7 +44,7 @@ abbrev says_by : Bool → Bool → Reduction → Result Reduction ReduceRefusal
 says_by short many x = cond short (Err ShortBuffer) (cond many (Err TooManyArrangements) (Ok x))
 
 in_order : (a b c d : Bool) (x y : Reduction) (last : Result (Unit {0}) OpenRefusal) →
-    cond a (Err (left_by ShortBuffer)) (cond b (Err (right_by ShortBuffer)) (cond c (Err (left_by TooManyArrangements)) (cond d (Err (right_by TooManyArrangements)) last)))
+    cond a (Err (refused_on Left ShortBuffer)) (cond b (Err (refused_on Right ShortBuffer)) (cond c (Err (refused_on Left TooManyArrangements)) (cond d (Err (refused_on Right TooManyArrangements)) last)))
     ≡ then_says (both_reduced (says_by a c x) (says_by b d y)) last
 in_order true b c d x y last = refl
 in_order false true true d x y last = refl
@@ -66,11 +67,6 @@ says_is : (short many : Bool) (x y : Reduction) → says_by short many x ≡ Ok 
 says_is true many x y e = absurd (err_not_ok _ _ e)
 says_is false true x y e = absurd (err_not_ok _ _ e)
 says_is false false x y e = cc
-
--- what two calls said, put together
-pub both_said : {z : Result (Reduction × Reduction) OpenRefusal} {a b : Result Reduction ReduceRefusal} (p q : Result Reduction ReduceRefusal) (w : Result (Reduction × Reduction) OpenRefusal) →
-    a ≡ p → b ≡ q → z ≡ both_reduced a b → z ≡ w → both_reduced p q ≡ w
-both_said p q w x y h k = ap₂ both_reduced (sym x) (sym y) ∙ sym h ∙ k
 
 -- an error that is passed on
 pub passed_on : {T E : Type 0} (z : Result T E) (e : E) → IsErrAnd z (λ x. x ≡ e) → z ≡ Err e
@@ -111,14 +107,21 @@ module _ (l r : Model) (left right : List ℕ) where
   open_in_order : open_says l r left right ≡ then_says (both_reduced (reduce_says l left) (reduce_says r right)) last_says
   open_in_order = in_order (ltb (length left) longest_sheet) (ltb (length right) longest_sheet) (ltb most_arrangements (arrangements l)) (ltb most_arrangements (arrangements r)) (reduction_of l) (reduction_of r) last_says
 
-  pub open_refused : (e : OpenRefusal) → both_reduced (reduce_says l left) (reduce_says r right) ≡ Err e → open_says l r left right ≡ Err e
-  open_refused e h = open_in_order ∙ ap (λ z. then_says z last_says) h
+  -- the reductions said a and b, and z is what both came to
+  module _ {a b : Result Reduction ReduceRefusal} {z : Result (Reduction × Reduction) OpenRefusal} (x : a ≡ reduce_says l left) (y : b ≡ reduce_says r right) (both : z ≡ both_reduced a b) where
+    said : z ≡ both_reduced (reduce_says l left) (reduce_says r right)
+    said = both ∙ ap₂ both_reduced x y
 
-  pub open_reduced : (p : Reduction × Reduction) → both_reduced (reduce_says l left) (reduce_says r right) ≡ Ok p → open_says l r left right ≡ last_says
-  open_reduced p h = open_in_order ∙ ap (λ z. then_says z last_says) h
+    pub open_refused : (e : OpenRefusal) → z ≡ Err e → open_says l r left right ≡ Err e
+    open_refused e h = open_in_order ∙ ap (λ w. then_says w last_says) (sym said ∙ h)
 
-  pub both_accepted : (p : Reduction × Reduction) → both_reduced (reduce_says l left) (reduce_says r right) ≡ Ok p → (reduce_says l left ≡ Ok p.0) × (reduce_says r right ≡ Ok p.1)
-  both_accepted p h = both_ok (reduce_says l left) (reduce_says r right) p h
+    -- both were accepted
+    module _ {p : Reduction × Reduction} (h : z ≡ Ok p) where
+      pub open_reduced : open_says l r left right ≡ last_says
+      open_reduced = open_in_order ∙ ap (λ w. then_says w last_says) (sym said ∙ h)
+
+      pub both_accepted : (reduce_says l left ≡ Ok p.0) × (reduce_says r right ≡ Ok p.1)
+      both_accepted = both_ok (reduce_says l left) (reduce_says r right) p (sym said ∙ h)
 
   -- end sheets decide likeness, and alike nets are reduced together
   pub sheets_decide : Lawful l → Lawful r → SheetsDecide l r left right
@@ -143,6 +146,10 @@ given_ok P Q (Err f) x e h = err_not_ok f x e
 pub record Bare (h : Half) (m : Model) (seats : Seats) : Type 0 where
   pub seated : seated_of h ≡ seated_by m seats
   pub tokens : held h ≡ bare m
+
+-- of a net that is that of a drawing
+pub bare_copy : (h : Half) (m n : Model) (seats : Seats) → seated_of h ≡ seated_by n seats → held h ≡ bare n → n ≡ m → Bare h m seats
+bare_copy h m n seats s b e = record { seated = s ∙ ap (λ (m : Model). seated_by m seats) e; tokens = b ∙ ap bare e }
 
 module _ (l r : Model) (v : Lawful l) (w : Lawful r) (left right : Seats) (x : Seating (seated_by l left)) (y : Seating (seated_by r right)) (e : end_sheet l ≡ end_sheet r) (lh rh : Half) (a : Bare lh l left) (b : Bare rh r right) where
   abbrev between : Sides

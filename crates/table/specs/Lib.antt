@@ -1,3 +1,4 @@
 pub mod Views
+pub mod Shifts
 pub mod Tables
 pub mod Opening

@@ -12,29 +12,25 @@ use Rattle.normal.specs.declared.reduction.Reduction.{Reduction}
 use Rattle.normal.specs.Numbers.{number_of}
 use Rattle.normal.specs.Counts.{most_arrangements}
 use Rattle.normal.specs.Reductions.{reduction_of, reduce_says}
+use Rattle.play.specs.declared.kinds.Side.{Side}
+use Rattle.play.specs.declared.kinds.Side.TheVariants.{Left, Right}
 use Rattle.play.specs.States.{Sides, State, opened, bare_board}
 use Rattle.play.specs.Fairness.{StaysFair}
 use Rattle.table.specs.declared.table.Table.{Table}
 use Rattle.table.specs.Tables.{state_of}
-use Rattle.table.specs.declared.refusal.LeftRefusal.{LeftRefusal}
-use Rattle.table.specs.declared.refusal.RightRefusal.{RightRefusal}
+use Rattle.table.specs.declared.refusal.SideRefusal.{SideRefusal}
 use Rattle.table.specs.declared.refusal.OpenRefusal.{OpenRefusal}
-use Rattle.table.specs.declared.refusal.OpenRefusal.TheVariants.{Left, Right, Differ}
+use Rattle.table.specs.declared.refusal.OpenRefusal.TheVariants.{OnSide, Differ}
 
 -- the number of each refusal
 abbrev pub open_number : OpenRefusal → ℕ
-open_number (Left e) = number_of e.0
-open_number (Right e) = number_of e.0
+open_number (OnSide e) = number_of e.refusal
 open_number Differ = 41
 
--- a side's refusal of a reduction
-abbrev pub on_left : {X : Type 0} → Result X ReduceRefusal → Result X LeftRefusal
-on_left (Ok x) = Ok x
-on_left (Err e) = Err (record { 0 = e })
-
-abbrev pub on_right : {X : Type 0} → Result X ReduceRefusal → Result X RightRefusal
-on_right (Ok x) = Ok x
-on_right (Err e) = Err (record { 0 = e })
+-- a reduction whose refusal is that of its side
+abbrev pub on_side : {X : Type 0} → Side → Result X ReduceRefusal → Result X SideRefusal
+on_side w (Ok x) = Ok x
+on_side w (Err e) = Err (record { side = w; refusal = e })
 
 -- a short buffer alone
 abbrev pub short_of : Result Reduction ReduceRefusal → Result (Unit {0}) ReduceRefusal
@@ -42,29 +38,27 @@ short_of (Ok _) = Ok tt
 short_of (Err ShortBuffer) = Err ShortBuffer
 short_of (Err TooManyArrangements) = Ok tt
 
-abbrev pub left_by : ReduceRefusal → OpenRefusal
-left_by e = Left (record { 0 = e })
-
-abbrev pub right_by : ReduceRefusal → OpenRefusal
-right_by e = Right (record { 0 = e })
+-- a side's refusal, as that of opening
+abbrev pub refused_on : Side → ReduceRefusal → OpenRefusal
+refused_on w e = OnSide (record { side = w; refusal = e })
 
 -- both reductions, or what refuses one: short buffers come before too many arrangements, and the left before the right
 abbrev pub both_reduced : Result Reduction ReduceRefusal → Result Reduction ReduceRefusal → Result (Reduction × Reduction) OpenRefusal
-both_reduced (Err ShortBuffer) right = Err (left_by ShortBuffer)
-both_reduced (Err TooManyArrangements) (Err ShortBuffer) = Err (right_by ShortBuffer)
-both_reduced (Err TooManyArrangements) (Err TooManyArrangements) = Err (left_by TooManyArrangements)
-both_reduced (Err TooManyArrangements) (Ok _) = Err (left_by TooManyArrangements)
-both_reduced (Ok _) (Err ShortBuffer) = Err (right_by ShortBuffer)
-both_reduced (Ok _) (Err TooManyArrangements) = Err (right_by TooManyArrangements)
+both_reduced (Err ShortBuffer) right = Err (refused_on Left ShortBuffer)
+both_reduced (Err TooManyArrangements) (Err ShortBuffer) = Err (refused_on Right ShortBuffer)
+both_reduced (Err TooManyArrangements) (Err TooManyArrangements) = Err (refused_on Left TooManyArrangements)
+both_reduced (Err TooManyArrangements) (Ok _) = Err (refused_on Left TooManyArrangements)
+both_reduced (Ok _) (Err ShortBuffer) = Err (refused_on Right ShortBuffer)
+both_reduced (Ok _) (Err TooManyArrangements) = Err (refused_on Right TooManyArrangements)
 both_reduced (Ok l) (Ok r) = Ok (l, r)
 
 -- What opening a table on two nets, with two buffers, says: the first condition that holds refuses it.
 abbrev pub open_says : Model → Model → List ℕ → List ℕ → Result (Unit {0}) OpenRefusal
 open_says l r left right =
-    cond (nat_lt (length left) longest_sheet) (Err (left_by ShortBuffer))
-    (cond (nat_lt (length right) longest_sheet) (Err (right_by ShortBuffer))
-    (cond (nat_lt most_arrangements (arrangements l)) (Err (left_by TooManyArrangements))
-    (cond (nat_lt most_arrangements (arrangements r)) (Err (right_by TooManyArrangements))
+    cond (nat_lt (length left) longest_sheet) (Err (refused_on Left ShortBuffer))
+    (cond (nat_lt (length right) longest_sheet) (Err (refused_on Right ShortBuffer))
+    (cond (nat_lt most_arrangements (arrangements l)) (Err (refused_on Left TooManyArrangements))
+    (cond (nat_lt most_arrangements (arrangements r)) (Err (refused_on Right TooManyArrangements))
     (cond (bytes_eq (end_sheet l) (end_sheet r)) (Ok tt) (Err Differ)))))
 
 -- The state of a table that is newly opened on the nets l and r: on each side stands its net, seated along an arrangement that

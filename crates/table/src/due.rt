@@ -1,5 +1,6 @@
 // The due of an accepted lead.
 ghost use Rattle.std.specs.Prelude.{◌≡◌};
+ghost use Rattle.table.specs.Tables.{handed_back};
 
 use play::kinds::Lead;
 
@@ -23,5 +24,19 @@ impl Due {
     {
         let Due { lead } = self;
         lead
+    }
+
+    // Spends the due of a call that was accepted, and hands that of a refused one back.
+    pub(crate) fn settle<E>(self, said: Result<(), E>) -> Result<(), (E, Due)>
+        ensures { result ≡ handed_back self said }
+    {
+        // Not by `map_err`: its closure would hold the due, and a closure may hold only what can be dropped.
+        match said {
+            Ok(()) => {
+                let _ = self.write_off();
+                Ok(())
+            }
+            Err(refusal) => Err((refusal, self)),
+        }
     }
 }

@@ -2,6 +2,7 @@
 #![tactic(auto)]
 
 pub mod due;
+mod game;
 mod half;
 mod order;
 pub mod refusal;

@@ -1,26 +1,24 @@
 // Why a table is not opened.
 ghost use Rattle.std.specs.Prelude.{◌≡◌};
 ghost use Rattle.table.specs.Opening.{open_number};
-ghost use Rattle.table.specs.declared.refusal.OpenRefusal.TheVariants.{Left, Right};
+ghost use Rattle.table.specs.declared.refusal.OpenRefusal.TheVariants.{OnSide};
 
 use normal::refusal::ReduceRefusal;
+use play::kinds::Side;
 
-/// What refuses the reduction of the left net.
+/// What refuses the reduction of a side's net.
 #[derive(Clone, Copy, PartialEq, Eq, Debug)]
-pub struct LeftRefusal(pub ReduceRefusal);
-
-/// What refuses the reduction of the right net.
-#[derive(Clone, Copy, PartialEq, Eq, Debug)]
-pub struct RightRefusal(pub ReduceRefusal);
+pub struct SideRefusal {
+    pub side: Side,
+    pub refusal: ReduceRefusal,
+}
 
 /// The refusals of opening a table; the table is then as before. They are checked in this order: 31 on the left, 31 on the right,
 /// 32 on the left, 32 on the right, 41.
 #[derive(Clone, Copy, PartialEq, Eq, Debug)]
 pub enum OpenRefusal {
-    /// 31 or 32: the left net is not reduced.
-    Left(LeftRefusal),
-    /// 31 or 32: the right net is not reduced.
-    Right(RightRefusal),
+    /// 31 or 32: the net of a side is not reduced.
+    OnSide(SideRefusal),
     /// 41: the end sheets differ.
     Differ,
 }
@@ -31,41 +29,17 @@ impl OpenRefusal {
         ensures { result ≡ open_number self }
     {
         match self {
-            OpenRefusal::Left(LeftRefusal(refusal)) => refusal.number(),
-            OpenRefusal::Right(RightRefusal(refusal)) => refusal.number(),
+            OpenRefusal::OnSide(SideRefusal { refusal, .. }) => refusal.number(),
+            // No cast: an enum with a case that has a value has no numbers of its own.
             OpenRefusal::Differ => 41,
         }
     }
 }
 
-impl From<ReduceRefusal> for LeftRefusal {
-    ghost from_gives = { λ e r. r.0 ≡ e };
+impl From<SideRefusal> for OpenRefusal {
+    ghost from_gives = { λ e r. r ≡ OnSide e };
 
-    fn from(refusal: ReduceRefusal) -> LeftRefusal {
-        LeftRefusal(refusal)
-    }
-}
-
-impl From<ReduceRefusal> for RightRefusal {
-    ghost from_gives = { λ e r. r.0 ≡ e };
-
-    fn from(refusal: ReduceRefusal) -> RightRefusal {
-        RightRefusal(refusal)
-    }
-}
-
-impl From<LeftRefusal> for OpenRefusal {
-    ghost from_gives = { λ e r. r ≡ Left e };
-
-    fn from(refusal: LeftRefusal) -> OpenRefusal {
-        OpenRefusal::Left(refusal)
-    }
-}
-
-impl From<RightRefusal> for OpenRefusal {
-    ghost from_gives = { λ e r. r ≡ Right e };
-
-    fn from(refusal: RightRefusal) -> OpenRefusal {
-        OpenRefusal::Right(refusal)
+    fn from(refusal: SideRefusal) -> OpenRefusal {
+        OpenRefusal::OnSide(refusal)
     }
 }

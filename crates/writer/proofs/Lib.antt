@@ -1,2 +1,6 @@
+mod Filling
 mod Inking
+mod Pushing
 mod RoundTrips
+mod Whole
+mod Writing

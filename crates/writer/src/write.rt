@@ -1,62 +1,82 @@
 // Writing the sheet of a net.
-ghost use Rattle.std.specs.Prelude.{◌≡◌, ◌+◌, ◌*◌, ◌<◌, ◌≤◌, ◌++◌, length, take, drop, IfOk, MatchResult};
+ghost use Rattle.std.specs.Prelude.{◌≡◌, ◌<◌, ◌≤◌, ◌++◌, length, take, drop, IfOk, MatchResult};
 ghost use Rattle.net.specs.Bags.{weights};
-ghost use Rattle.format.specs.Sheets.{labels_of, row_of, rows_of, weights_of, sheet_of};
-ghost use Rattle.writer.specs.Ink.{Writes, bits_at};
+ghost use Rattle.format.specs.Sheets.{head_of, labels_of, row_of, rows_of, weights_of, fields_of, sheet_of};
+ghost use Rattle.writer.specs.Ink.{Writes, HasRoom};
 ghost use Rattle.writer.specs.Refusals.{refusal_of, buffer_refusal};
 ghost use Rattle.writer.specs.RoundTrip.{RoundTrip};
 
 use super::pen::Pen;
 use super::refusal::WriteRefusal;
-use format::{FORM, FORM_BITS, LONGEST_SHEET, PLACES_BITS, TRANSITIONS_BITS, WEIGHT_BITS};
+use format::{
+    FORM, FORM_BITS, LABEL_BITS, LONGEST_SHEET, PLACES_BITS, TRANSITIONS_BITS, WEIGHT_BITS,
+};
 use net::bag::{Bag, weight};
-use net::interface::{Net, place_label_number, transition_label_number};
+use net::interface::Net;
+use net::node::label_number;
 use net::numbers::{PlaceNo, TransitionNo};
 
-// Writes the label of each place.
-fn write_labels<N: Net>(net: &N, buffer: &mut [u8], pen: Pen) -> Pen
-    requires room { bits_at pen + (N.model net.now).places * 10 ≤ 8 * length buffer.old }
-    ensures { Writes (labels_of (N.model net.now)) buffer.old pen buffer.new result }
+// The six functions below take a net and a pen: a struct of both would lend both in each call, and shorten no clause.
+// The loops of three of them stay three: one over a closure that writes a part asks for a longer contract than the three have.
+
+// Writes the form and the two counts.
+fn write_head<N: Net>(net: &N, pen: &mut Pen)
+    requires { HasRoom (head_of (N.model net.now)) pen.old }
+    ensures { Writes (head_of (N.model net.now)) pen.old pen.new }
 {
-    let mut ink = pen;
+    pen.push(FORM_BITS, u16::from(FORM));
+    pen.push(PLACES_BITS, u16::from(net.places()));
+    pen.push(TRANSITIONS_BITS, u16::from(net.transitions()));
+}
+
+// Writes the label of each place.
+fn write_labels<N: Net>(net: &N, pen: &mut Pen)
+    requires { HasRoom (labels_of (N.model net.now)) pen.old }
+    ensures { Writes (labels_of (N.model net.now)) pen.old pen.new }
+{
     for p in 0..net.places() {
-        ink = ink.push_label(buffer, place_label_number(net, PlaceNo(p)));
+        pen.push(LABEL_BITS, label_number(net, PlaceNo(p)));
     }
-    ink
 }
 
 // Writes one bag of a transition.
-fn write_bag<N: Net>(net: &N, bag: Bag, t: TransitionNo, buffer: &mut [u8], pen: Pen) -> Pen
-    requires room { bits_at pen + (N.model net.now).places * 8 ≤ 8 * length buffer.old }
-    ensures { Writes (weights_of (weights bag (N.model net.now) t.0) (N.model net.now).places) buffer.old pen buffer.new result }
+fn write_bag<N: Net>(net: &N, bag: Bag, t: TransitionNo, pen: &mut Pen)
+    requires { HasRoom (weights_of (weights bag (N.model net.now) t.0) (N.model net.now).places) pen.old }
+    ensures { Writes (weights_of (weights bag (N.model net.now) t.0) (N.model net.now).places) pen.old pen.new }
 {
-    let mut ink = pen;
     for p in 0..net.places() {
-        ink = ink.push(buffer, WEIGHT_BITS, weight(net, bag, t, PlaceNo(p)));
+        pen.push(WEIGHT_BITS, u16::from(weight(net, bag, t, PlaceNo(p))));
     }
-    ink
 }
 
 // Writes a transition: its label, its cause and its effect.
-fn write_row<N: Net>(net: &N, t: TransitionNo, buffer: &mut [u8], pen: Pen) -> Pen
-    requires room { bits_at pen + (10 + 16 * (N.model net.now).places) ≤ 8 * length buffer.old }
-    ensures { Writes (row_of (N.model net.now) t.0) buffer.old pen buffer.new result }
+fn write_row<N: Net>(net: &N, t: TransitionNo, pen: &mut Pen)
+    requires { HasRoom (row_of (N.model net.now) t.0) pen.old }
+    ensures { Writes (row_of (N.model net.now) t.0) pen.old pen.new }
 {
-    let labelled = pen.push_label(buffer, transition_label_number(net, t));
-    let caused = write_bag(net, Bag::Cause, t, buffer, labelled);
-    write_bag(net, Bag::Effect, t, buffer, caused)
+    pen.push(LABEL_BITS, label_number(net, t));
+    write_bag(net, Bag::Cause, t, pen);
+    write_bag(net, Bag::Effect, t, pen);
 }
 
 // Writes all transitions.
-fn write_rows<N: Net>(net: &N, buffer: &mut [u8], pen: Pen) -> Pen
-    requires room { bits_at pen + (N.model net.now).transitions * (10 + 16 * (N.model net.now).places) ≤ 8 * length buffer.old }
-    ensures { Writes (rows_of (N.model net.now)) buffer.old pen buffer.new result }
+fn write_rows<N: Net>(net: &N, pen: &mut Pen)
+    requires { HasRoom (rows_of (N.model net.now)) pen.old }
+    ensures { Writes (rows_of (N.model net.now)) pen.old pen.new }
 {
-    let mut ink = pen;
     for t in 0..net.transitions() {
-        ink = write_row(net, TransitionNo(t), buffer, ink);
+        write_row(net, TransitionNo(t), pen);
     }
-    ink
+}
+
+// Writes all fields of a net's sheet.
+fn write_fields<N: Net>(net: &N, pen: &mut Pen)
+    requires { HasRoom (fields_of (N.model net.now)) pen.old }
+    ensures { Writes (fields_of (N.model net.now)) pen.old pen.new }
+{
+    write_head(net, pen);
+    write_labels(net, pen);
+    write_rows(net, pen);
 }
 
 /// Writes the sheet of a net at the front of the buffer and gives its length; the bytes past it keep what they held.
@@ -73,10 +93,7 @@ pub fn write<N: Net>(net: &N, buffer: &mut [u8]) -> Result<usize, WriteRefusal>
     if room < LONGEST_SHEET {
         return Err(WriteRefusal::ShortBuffer);
     }
-    let form = Pen::start().push(buffer, FORM_BITS, FORM);
-    let places = form.push(buffer, PLACES_BITS, net.places());
-    let head = places.push(buffer, TRANSITIONS_BITS, net.transitions());
-    let labelled = write_labels(net, buffer, head);
-    let whole = write_rows(net, buffer, labelled);
-    Ok(whole.finish(buffer))
+    let mut pen = Pen::new(buffer);
+    write_fields(net, &mut pen);
+    Ok(pen.finish())
 }

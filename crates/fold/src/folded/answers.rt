@@ -1,79 +1,84 @@
 // A folded net answers as the net of the groups.
-ghost use Rattle.std.specs.Prelude.{◌≡◌};
+ghost use Rattle.std.specs.Prelude.{◌≡◌, cond};
 ghost use Rattle.net.specs.Bags.{weights};
 ghost use Rattle.fold.specs.Layer.{fits, folded_by, folded_by_lawful};
+ghost use Rattle.arrayvec.specs.ArrayVec.{array_vec_len};
+ghost use Rattle.fold.specs.Listing.{StandsFor};
 
 use super::Folded;
-use super::sums::group_weight;
+use crate::leaders::Leaders;
 use net::bag::{Bag, weight};
 use net::interface::Net;
+use net::node::Node;
 use net::numbers::{Label, PlaceNo, TransitionNo};
 
+// Each answer asks `fits` anew: no invariant can say it for good, for an invariant cannot speak of the net below.
 impl<'n, 'g, N: Net> Folded<'n, 'g, N> {
-    // Whether the grouping divides as many places and as many transitions as the net below has.
-    fn fits(&self) -> bool
-        ensures { result ≡ fits (N.model self.now.net.now) self.now.groups.now }
+    // How many nodes of a kind: the groups, and those of the net below where the grouping does not fit.
+    fn count_of<K: Node, const MOST: usize>(&self, leaders: &Leaders<K, MOST>) -> u8
+        ensures { result ≡ cond (fits (N.model self.now.below.net.now) self.now.below.groups.now) (array_vec_len leaders.now.listed) (K.count (N.model self.now.below.net.now)) }
     {
-        self.net.places() == self.groups.places && self.net.transitions() == self.groups.transitions
+        if self.below.fits() {
+            leaders.count()
+        } else {
+            K::count(self.below.net)
+        }
+    }
+
+    // The node below that stands for a node: its group's leader, and the node itself where the grouping does not fit.
+    fn node_below<K: Node, const MOST: usize>(
+        &self,
+        leaders: &Leaders<K, MOST>,
+        node: K,
+    ) -> Option<K>
+        ensures { StandsFor (fits (N.model self.now.below.net.now) self.now.below.groups.now) (array_vec_len leaders.now.listed) leaders.now.listed.items (K.number node) K.number result }
+    {
+        if self.below.fits() {
+            leaders.get(node)
+        } else {
+            Some(node)
+        }
     }
 
     // The weight of either bag: that of the group's lowest transition, over the places of the group.
     fn weight(&self, bag: Bag, transition: TransitionNo, place: PlaceNo) -> u8
-        ensures { result ≡ weights bag (folded_by (N.model self.now.net.now) self.now.groups.now) transition.0 place.0 }
+        ensures { result ≡ weights bag (folded_by (N.model self.now.below.net.now) self.now.below.groups.now) transition.0 place.0 }
     {
-        if !self.fits() {
-            return weight(self.net, bag, transition, place);
+        if !self.below.fits() {
+            return weight(self.below.net, bag, transition, place);
         }
-        if transition.0 >= self.transition_groups || place.0 >= self.place_groups {
+        let Some(leader) = self.transitions.get(transition) else {
             return 0;
-        }
-        let leader = TransitionNo(self.transition_leaders[transition.0 as usize]);
-        let member = PlaceNo(self.place_leaders[place.0 as usize]);
-        group_weight(self.net, self.groups, bag, leader, member)
+        };
+        let Some(member) = self.places.get(place) else {
+            return 0;
+        };
+        self.below.group_weight(bag, leader, member)
     }
 }
 
 impl<'n, 'g, N: Net> Net for Folded<'n, 'g, N> {
-    ghost model = { λ x. folded_by (N.Net.model x.net.now) x.groups.now };
+    ghost model = { λ x. folded_by (N.Net.model x.below.net.now) x.below.groups.now };
 
-    ghost lawful = { λ x. folded_by_lawful (N.Net.model x.net.now) x.groups.now (N.Net.lawful x.net.now) };
+    ghost lawful = { λ x. folded_by_lawful (N.Net.model x.below.net.now) x.below.groups.now (N.Net.lawful x.below.net.now) };
 
     fn places(&self) -> u8 {
-        if self.fits() {
-            self.place_groups
-        } else {
-            self.net.places()
-        }
+        self.count_of(&self.places)
     }
 
     fn transitions(&self) -> u8 {
-        if self.fits() {
-            self.transition_groups
-        } else {
-            self.net.transitions()
-        }
+        self.count_of(&self.transitions)
     }
 
+    // The questions of `Net` name the kinds, so each label has its own; what the two share is `node_below`.
     fn place_label(&self, place: PlaceNo) -> Option<Label> {
-        if !self.fits() {
-            return self.net.place_label(place);
-        }
-        if place.0 >= self.place_groups {
-            return None;
-        }
-        let leader = PlaceNo(self.place_leaders[place.0 as usize]);
-        self.net.place_label(leader)
+        let leader = self.node_below(&self.places, place)?;
+        self.below.net.place_label(leader)
     }
 
     fn transition_label(&self, transition: TransitionNo) -> Option<Label> {
-        if !self.fits() {
-            return self.net.transition_label(transition);
-        }
-        if transition.0 >= self.transition_groups {
-            return None;
-        }
-        let leader = TransitionNo(self.transition_leaders[transition.0 as usize]);
-        self.net.transition_label(leader)
+        let leader = self.node_below(&self.transitions, transition)?;
+        self.below.net.transition_label(leader)
     }
 
     fn cause(&self, transition: TransitionNo, place: PlaceNo) -> u8 {

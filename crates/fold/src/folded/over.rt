@@ -6,36 +6,21 @@ ghost use Rattle.fold.specs.Divides.{Divides};
 ghost use Rattle.fold.specs.Layer.{folded_by};
 
 use super::Folded;
+use crate::grouped::GroupedNet;
 use crate::grouping::Grouping;
-use crate::leaders::list_leaders;
-use crate::together::{PlacesTogether, TransitionsTogether};
+use crate::leaders::Leaders;
 use net::interface::Net;
 
 impl<'n, 'g, N: Net> Folded<'n, 'g, N> {
     /// The net folded by the grouping. Folded by its own groups at rest, it is alike to the net below.
     pub fn over(net: &'n N, groups: &'g Grouping) -> Folded<'n, 'g, N>
-        ensures below { (result.net.now ≡ net.now) × (result.groups.now ≡ groups.now) }
+        ensures below { (result.below.net.now ≡ net.now) × (result.below.groups.now ≡ groups.now) }
         ensures alike { Divides (N.model net.now).places (N.model net.now).transitions (final (N.model net.now)) groups.now → Alike (folded_by (N.model net.now) groups.now) (N.model net.now) }
     {
-        let mut place_leaders = [0; 64];
-        let mut transition_leaders = [0; 128];
-        let place_groups = list_leaders(
-            &PlacesTogether { groups },
-            groups.places,
-            &mut place_leaders,
-        );
-        let transition_groups = list_leaders(
-            &TransitionsTogether { groups },
-            groups.transitions,
-            &mut transition_leaders,
-        );
         Folded {
-            net,
-            groups,
-            place_groups,
-            transition_groups,
-            place_leaders,
-            transition_leaders,
+            below: GroupedNet { net, groups },
+            places: Leaders::of(&groups.places),
+            transitions: Leaders::of(&groups.transitions),
         }
     }
 }

@@ -6,23 +6,31 @@ ghost use Rattle.reader.specs.Refusals.{refusal_of};
 ghost use Rattle.reader.specs.Readers.{read_net};
 
 use super::SheetReader;
-use crate::bits::{places, transitions};
 use crate::check::check;
+use crate::fields::Fields;
+use crate::head::Head;
 use crate::refusal::SheetRefusal;
+use format::FORM;
 
 // The sheet of the empty net.
 static EMPTY: [u8; 3] = [16, 0, 0];
 
+// Two steps, a reader and then `open` on it: after a refused sheet the reader answers as before, as its users ask.
 impl<'a> SheetReader<'a> {
     /// A reader of the empty net.
     pub fn new() -> SheetReader<'a>
         ensures { read_net result ≡ empty }
     {
-        SheetReader {
-            bytes: &EMPTY,
+        let head = Head {
+            form: FORM,
             places: 0,
             transitions: 0,
-        }
+        };
+        let fields = Fields {
+            bytes: &EMPTY,
+            head,
+        };
+        SheetReader { fields }
     }
 
     /// Reads the bytes from now on, unless they are refused; then the reader is as before.
@@ -33,16 +41,8 @@ impl<'a> SheetReader<'a> {
         ensures lawful { MatchResult result (λ _. LawfulSheet bytes.now) (λ _. LawfulSheet bytes.now → ⊥) }
         ensures exact { MatchResult result (λ _. SheetOfNet bytes.now) (λ _. SheetOfNet bytes.now → ⊥) }
     {
-        match check(bytes) {
-            Ok(()) => {
-                *self = SheetReader {
-                    bytes,
-                    places: places(bytes),
-                    transitions: transitions(bytes),
-                };
-                Ok(())
-            }
-            Err(refusal) => Err(refusal),
-        }
+        let fields = check(bytes)?;
+        *self = SheetReader { fields };
+        Ok(())
     }
 }

@@ -1,23 +1,28 @@
-// The moves of one side.
-ghost use Rattle.std.specs.Prelude.{◌≡◌, ◌<◌, ◌≤◌, true, take};
+// What one side has, and the moves that it allows: a lead, a reply, and a lead that is undone.
+ghost use Rattle.std.specs.Prelude.{◌≡◌, ◌<◌, ◌≤◌, true, false, nat_le, take, MatchOption};
+ghost use Rattle.net.specs.declared.bag.Bag.TheVariants.{Cause, Effect};
+ghost use Rattle.arrangement.specs.Arrangements.{at};
 ghost use Rattle.drawing.specs.Drawn.{drawn};
-ghost use Rattle.bisimulation.specs.Rounds.{unit};
 ghost use Rattle.normal.specs.Seatings.{seated_by};
-ghost use Rattle.play.specs.Moves.{most_tokens, numbers, seat_of, takes, gives, covers, moved, undone, total, bare};
+ghost use Rattle.play.specs.Moves.{most_tokens, numbers, seat_of, takes, covers, total, bare};
 ghost use Rattle.play.specs.Calls.{move_says, reply_says};
-ghost use Rattle.table.specs.Views.{net_of, seated_of, held, count_after, Given, on_seat};
+ghost use Rattle.table.specs.Views.{net_of, seated_of, held, weight_of, CoversBag};
+ghost use Rattle.table.specs.Shifts.{IsShift, Allows};
 
 use super::Half;
+use super::shift::Shift;
 use drawing::Drawing;
+use net::bag::{Bag, weight};
 use net::interface::Net;
 use net::numbers::{PlaceNo, Seat, TransitionNo};
 use normal::seats::Seats;
-use play::kinds::Sort;
+use play::kinds::{Lead, Move, Sort};
 use play::refusals::{AnswerRefusal, LeadRefusal};
 
 /// The most tokens that a side holds.
 const MOST_TOKENS: u32 = 1_000_000;
 
+// The clauses name a half's net and its tokens apart, since the words of play know no half.
 impl Half {
     /// A net with its seats, and no tokens.
     pub fn new(net: Drawing, seats: Seats) -> Half
@@ -36,135 +41,118 @@ impl Half {
         ensures { result ≡ numbers (net_of self.now) sort }
     {
         match sort {
-            Sort::Put => self.net.places(),
-            Sort::Take => self.net.places(),
+            Sort::Put | Sort::Take => self.net.places(),
             Sort::Fire => self.net.transitions(),
         }
     }
 
     /// The seat of what a move names.
-    pub fn seat(&self, sort: Sort, number: u8) -> Seat
-        ensures { result.0 ≡ seat_of (seated_of self.now) sort number }
+    pub fn seat(&self, step: Move) -> Seat
+        ensures { result.0 ≡ seat_of (seated_of self.now) step.sort step.number }
     {
-        match sort {
-            Sort::Put => self.seats.of_place(PlaceNo(number)),
-            Sort::Take => self.seats.of_place(PlaceNo(number)),
-            Sort::Fire => self.seats.of_transition(TransitionNo(number)),
+        match step.sort {
+            Sort::Put | Sort::Take => self.seats.places.of(PlaceNo(step.number)),
+            Sort::Fire => self.seats.transitions.of(TransitionNo(step.number)),
         }
     }
 
-    /// How many tokens a move takes from a place.
-    pub fn takes(&self, sort: Sort, number: u8, place: u8) -> u8
-        ensures { result ≡ takes (net_of self.now) sort number place }
+    // The tokens on the places, in their order.
+    fn held(&self) -> &[u32]
+        ensures { result.now ≡ held self.now }
     {
-        match sort {
-            Sort::Put => 0,
-            Sort::Take => once(number, place),
-            Sort::Fire => self.net.cause(TransitionNo(number), PlaceNo(place)),
-        }
+        &self.tokens[..usize::from(self.net.places())]
     }
 
-    /// How many tokens a move gives to a place.
-    pub fn gives(&self, sort: Sort, number: u8, place: u8) -> u8
-        ensures { result ≡ gives (net_of self.now) sort number place }
+    /// The tokens on a place, and none past the last place.
+    pub fn tokens_on(&self, place: u8) -> u32
+        ensures value { result ≡ at (held self.now) place }
+        ensures bound { result ≤ most_tokens }
     {
-        match sort {
-            Sort::Put => once(number, place),
-            Sort::Take => 0,
-            Sort::Fire => self.net.effect(TransitionNo(number), PlaceNo(place)),
+        self.held().get(usize::from(place)).copied().unwrap_or(0)
+    }
+
+    /// How many tokens a bag of a move has on a place: the cause is what the move takes, the effect what it gives.
+    #[tactic(auto, unfolding(bisimulation::specs::Rounds::unit))]
+    pub fn weight(&self, bag: Bag, step: Move, place: u8) -> u8
+        ensures { result ≡ weight_of (net_of self.now) bag step.sort step.number place }
+    {
+        match (step.sort, bag) {
+            (Sort::Put, Bag::Cause) | (Sort::Take, Bag::Effect) => 0,
+            (Sort::Put, Bag::Effect) | (Sort::Take, Bag::Cause) => u8::from(step.number == place),
+            (Sort::Fire, bag) => weight(&self.net, bag, TransitionNo(step.number), PlaceNo(place)),
         }
     }
 
     /// Whether the side lacks no token that a move takes.
-    pub fn covers(&self, sort: Sort, number: u8) -> bool
-        ensures { result ≡ covers (net_of self.now) (held self.now) sort number }
+    pub fn covers(&self, step: Move) -> bool
+        ensures { result ≡ covers (net_of self.now) (held self.now) step.sort step.number }
     {
-        for x in 0..self.net.places() {
-            if self.tokens[x as usize] < self.takes(sort, number, x) as u32 {
-                return false;
-            }
+        (0..self.net.places()).all(|x| self.has(step, x))
+    }
+
+    // Whether a place has the tokens that a move takes from it.
+    fn has(&self, step: Move, place: u8) -> bool
+        ensures { result ≡ nat_le (takes (net_of self.now) step.sort step.number place) (at (held self.now) place) }
+    {
+        u32::from(self.weight(Bag::Cause, step, place)) <= self.tokens_on(place)
+    }
+
+    // A move whose cause the side covers.
+    fn cover(&self, step: Move) -> Option<Shift<'_>>
+        ensures { MatchOption result (covers (net_of self.now) (held self.now) step.sort step.number ≡ false) (λ s. IsShift s self.now step Cause × (covers (net_of self.now) (held self.now) step.sort step.number ≡ true)) }
+    {
+        if !self.covers(step) {
+            return None;
         }
-        true
+        Some(Shift {
+            half: self,
+            step,
+            off: Bag::Cause,
+        })
     }
 
-    // The tokens on one place after a move.
-    fn count_after(&self, sort: Sort, number: u8, place: u8) -> u32
-        requires covered { covers (net_of self.now) (held self.now) sort number ≡ true }
-        requires there { place < (net_of self.now).places }
-        ensures value { result ≡ count_after (net_of self.now) (held self.now) sort number place }
-        ensures bound { result ≤ 1000255 }
+    /// The move of a lead, or why the lead is refused.
+    pub fn lead(&self, step: Move) -> Result<Shift<'_>, LeadRefusal>
+        ensures { Allows result self.now step (seat_of (seated_of self.now) step.sort step.number) (move_says (seated_of self.now) (held self.now) step.sort step.number) }
     {
-        let left = self.tokens[place as usize] - self.takes(sort, number, place) as u32;
-        left + self.gives(sort, number, place) as u32
-    }
-
-    /// The tokens after a move.
-    pub fn after(&self, sort: Sort, number: u8) -> [u32; 64]
-        requires { covers (net_of self.now) (held self.now) sort number ≡ true }
-        ensures { take (net_of self.now).places result ≡ moved (net_of self.now) (held self.now) sort number }
-    {
-        let mut new = [0; 64];
-        for x in 0..self.net.places() {
-            new[x as usize] = self.count_after(sort, number, x);
-        }
-        new
-    }
-
-    // How many tokens there are in all after a move.
-    fn total_after(&self, sort: Sort, number: u8) -> u32
-        requires { covers (net_of self.now) (held self.now) sort number ≡ true }
-        ensures { result ≡ total (net_of self.now) (moved (net_of self.now) (held self.now) sort number) }
-    {
-        let mut all = 0;
-        for x in 0..self.net.places() {
-            all += self.count_after(sort, number, x);
-        }
-        all
-    }
-
-    /// The tokens before a move.
-    pub fn before(&self, sort: Sort, number: u8) -> [u32; 64]
-        requires { Given (net_of self.now) (held self.now) sort number }
-        ensures { take (net_of self.now).places result ≡ undone (net_of self.now) (held self.now) sort number }
-    {
-        let mut old = [0; 64];
-        for x in 0..self.net.places() {
-            let left = self.tokens[x as usize] - self.gives(sort, number, x) as u32;
-            old[x as usize] = left + self.takes(sort, number, x) as u32;
-        }
-        old
-    }
-
-    /// The seat of what a lead names, or why the lead is refused.
-    pub fn lead(&self, sort: Sort, number: u8) -> Result<Seat, LeadRefusal>
-        ensures { result ≡ on_seat (move_says (seated_of self.now) (held self.now) sort number) }
-    {
-        if number >= self.numbers(sort) {
+        if step.number >= self.numbers(step.sort) {
             return Err(LeadRefusal::NoSuchNumber);
         }
-        if !self.covers(sort, number) {
-            return Err(LeadRefusal::TokensLacking);
-        }
-        if self.total_after(sort, number) > MOST_TOKENS {
+        let shift = self.cover(step).ok_or(LeadRefusal::TokensLacking)?;
+        if shift.total() > MOST_TOKENS {
             return Err(LeadRefusal::TooManyTokens);
         }
-        Ok(self.seat(sort, number))
+        Ok(shift)
     }
 
-    /// Whether an answer at a seat is accepted, or why it is refused.
-    pub fn reply(&self, sort: Sort, seat: Seat, number: u8) -> Result<(), AnswerRefusal>
-        ensures { result ≡ reply_says (seated_of self.now) (held self.now) sort seat.0 number }
+    /// The move of an answer to a lead on the other side, or why the answer is refused.
+    pub fn reply(&self, lead: Lead, number: u8) -> Result<Shift<'_>, AnswerRefusal>
+        ensures { Allows result self.now (record { sort = lead.sort; number = number }) tt (reply_says (seated_of self.now) (held self.now) lead.sort lead.seat.0 number) }
     {
-        if number >= self.numbers(sort) {
+        let step = Move {
+            sort: lead.sort,
+            number,
+        };
+        // The test of `lead` again: each raises its own refusal, in its own order.
+        if step.number >= self.numbers(step.sort) {
             return Err(AnswerRefusal::NoSuchNumber);
         }
-        if self.seat(sort, number).0 != seat.0 {
+        if self.seat(step) != lead.seat {
             return Err(AnswerRefusal::OtherSeat);
         }
-        if !self.covers(sort, number) {
-            return Err(AnswerRefusal::TokensLacking);
+        self.cover(step).ok_or(AnswerRefusal::TokensLacking)
+    }
+
+    /// A move to be undone.
+    pub fn undo(&self, step: Move) -> Shift<'_>
+        requires { CoversBag (net_of self.now) (held self.now) Effect step.sort step.number }
+        ensures { IsShift result self.now step Effect }
+    {
+        Shift {
+            half: self,
+            step,
+            off: Bag::Effect,
         }
-        Ok(())
     }
 
     /// Replaces the tokens.
@@ -173,13 +161,7 @@ impl Half {
         ensures seated { seated_of self.new ≡ seated_of self.old }
         ensures held { held self.new ≡ take (net_of self.old).places tokens }
     {
+        // An array is handed on from `Shift::tokens` through `write`, since that is what the side keeps.
         self.tokens = tokens;
     }
-}
-
-// One where the numbers agree, and else none.
-fn once(number: u8, place: u8) -> u8
-    ensures { result ≡ unit number place }
-{
-    if number == place { 1 } else { 0 }
 }

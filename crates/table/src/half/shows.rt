@@ -1,47 +1,61 @@
-// What one side shows.
-ghost use Rattle.std.specs.Prelude.{◌≡◌, ◌&&◌, ◌==◌};
+// What one side shows, and whether it accepts an answer.
+ghost use Rattle.std.specs.Prelude.{◌≡◌, ◌<◌, ◌≤◌, cond, ◌&&◌, ◌==◌};
+ghost use Rattle.arrangement.specs.Arrangements.{at};
 ghost use Rattle.play.specs.declared.kinds.Sort.TheVariants.{Fire};
-ghost use Rattle.play.specs.Moves.{covers};
+ghost use Rattle.play.specs.Moves.{most_tokens, covers};
+ghost use Rattle.play.specs.Calls.{accepted, reply_says};
 ghost use Rattle.play.specs.Shows.{label_tokens, can_fire};
-ghost use Rattle.table.specs.Views.{net_of, held};
+ghost use Rattle.table.specs.Views.{net_of, seated_of, held};
 
 use super::Half;
-use net::interface::{Net, place_label_number, transition_label_number};
+use net::interface::Net;
+use net::node::label_number;
 use net::numbers::{Label, PlaceNo, TransitionNo};
-use play::kinds::Sort;
+use play::kinds::{Lead, Move};
 
 impl Half {
     /// The tokens on places with a label.
     pub fn label_tokens(&self, label: Label) -> u32
         ensures { result ≡ label_tokens (net_of self.now) (held self.now) label.0 }
     {
-        let mut all = 0;
-        for p in 0..self.net.places() {
-            if place_label_number(&self.net, PlaceNo(p)) != label.0 {
-                continue;
-            }
-            all += self.tokens[p as usize];
+        // Not `filter`, then `map`: the sum that is promised goes over all places, so `labelled` is nearer to it.
+        (0..self.net.places())
+            .map(|p| self.labelled(p, label))
+            .sum()
+    }
+
+    // The tokens on a place, if it has a label. Labels are compared as numbers: the words of play speak of the model, which has 0 past
+    // the last node, and an `Option` would need a bound on the node.
+    fn labelled(&self, place: u8, label: Label) -> u32
+        ensures value { result ≡ cond ((net_of self.now).place_label place == label.0) (at (held self.now) place) 0 }
+        ensures bound { result ≤ most_tokens }
+    {
+        if label_number(&self.net, PlaceNo(place)) == label.0 {
+            self.tokens_on(place)
+        } else {
+            0
         }
-        all
     }
 
     /// Whether a transition with a label can fire.
     pub fn can_fire(&self, label: Label) -> bool
         ensures { result ≡ can_fire (net_of self.now) (held self.now) label.0 }
     {
-        for t in 0..self.net.transitions() {
-            if self.fires(t, label) {
-                return true;
-            }
-        }
-        false
+        (0..self.net.transitions()).any(|t| self.fires(t, label))
+    }
+
+    /// Whether an answer to a lead is accepted.
+    pub fn accepts(&self, lead: Lead, number: u8) -> bool
+        ensures { result ≡ accepted (reply_says (seated_of self.now) (held self.now) lead.sort lead.seat.0 number) }
+    {
+        self.reply(lead, number).is_ok()
     }
 
     // Whether a transition has a label and can fire.
     fn fires(&self, transition: u8, label: Label) -> bool
         ensures { result ≡ ((net_of self.now).transition_label transition == label.0 && covers (net_of self.now) (held self.now) Fire transition) }
     {
-        transition_label_number(&self.net, TransitionNo(transition)) == label.0
-            && self.covers(Sort::Fire, transition)
+        let transition = TransitionNo(transition);
+        label_number(&self.net, transition) == label.0 && self.covers(Move::fire(transition))
     }
 }

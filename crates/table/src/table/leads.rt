@@ -1,4 +1,4 @@
-// A new table, and the leads: put, take and fire.
+// A new table, and the leads: put, take and fire, the calls by which users name the three sorts of move.
 ghost use Rattle.std.specs.Prelude.{◌≡◌};
 ghost use Rattle.play.specs.declared.kinds.Sort.TheVariants.{Put, Take, Fire};
 ghost use Rattle.play.specs.States.{closed};
@@ -7,11 +7,8 @@ ghost use Rattle.table.specs.Tables.{state_of, handed, AsBefore};
 
 use super::Table;
 use crate::due::Due;
-use crate::half::Half;
-use drawing::Drawing;
 use net::numbers::{PlaceNo, TransitionNo};
-use normal::seats::Seats;
-use play::kinds::{Lead, Side, Sort};
+use play::kinds::{Move, Side};
 use play::refusals::LeadRefusal;
 
 impl Table {
@@ -19,14 +16,7 @@ impl Table {
     pub fn new() -> Table
         ensures { state_of result ≡ closed }
     {
-        let left = Half::new(Drawing::new(), Seats::new());
-        let right = Half::new(Drawing::new(), Seats::new());
-        Table {
-            left,
-            right,
-            opened: false,
-            owed: None,
-        }
+        Table { game: None }
     }
 
     /// Puts a token on a place of a side.
@@ -35,7 +25,7 @@ impl Table {
         ensures after { state_of self.new ≡ led (state_of self.old) side Put place.0 }
         ensures refused { AsBefore result self.old self.new }
     {
-        self.lead(side, Sort::Put, place.0)
+        self.lead(side, Move::put(place))
     }
 
     /// Takes a token from a place of a side.
@@ -44,7 +34,7 @@ impl Table {
         ensures after { state_of self.new ≡ led (state_of self.old) side Take place.0 }
         ensures refused { AsBefore result self.old self.new }
     {
-        self.lead(side, Sort::Take, place.0)
+        self.lead(side, Move::take(place))
     }
 
     /// Fires a transition of a side.
@@ -53,31 +43,17 @@ impl Table {
         ensures after { state_of self.new ≡ led (state_of self.old) side Fire transition.0 }
         ensures refused { AsBefore result self.old self.new }
     {
-        self.lead(side, Sort::Fire, transition.0)
+        self.lead(side, Move::fire(transition))
     }
 
-    // Leads with a number on a side, and hands out the due that an answer on the other side is owed to.
-    fn lead(&mut self, side: Side, sort: Sort, number: u8) -> Result<Due, LeadRefusal>
-        ensures says { result ≡ handed (lead_says (state_of self.old) side sort number) }
-        ensures after { state_of self.new ≡ led (state_of self.old) side sort number }
+    // Leads with a move on a side, and hands out the due that an answer on the other side is owed to.
+    fn lead(&mut self, side: Side, step: Move) -> Result<Due, LeadRefusal>
+        ensures says { result ≡ handed (lead_says (state_of self.old) side step.sort step.number) }
+        ensures after { state_of self.new ≡ led (state_of self.old) side step.sort step.number }
         ensures refused { AsBefore result self.old self.new }
     {
-        if !self.opened {
-            return Err(LeadRefusal::Closed);
-        }
-        if let Some(_) = self.owed {
-            return Err(LeadRefusal::AnswerOwed);
-        }
-        let half = self.half(side);
-        let seat = half.lead(sort, number)?;
-        let tokens = half.after(sort, number);
-        let lead = Lead {
-            side,
-            sort,
-            number,
-            seat,
-        };
-        self.write(side, tokens, Some(lead));
+        let game = self.game.as_mut().ok_or(LeadRefusal::Closed)?;
+        let lead = game.lead(side, step)?;
         Ok(Due { lead })
     }
 }

@@ -4,10 +4,9 @@ ghost use Rattle.normal.specs.Reductions.{reduced_buffer};
 ghost use Rattle.table.specs.Opening.{open_says, AfterOpen, SheetsDecide};
 
 use super::Table;
-use crate::half::Half;
+use crate::game::Game;
 use crate::order::both_reduced;
 use crate::refusal::OpenRefusal;
-use drawing::Drawing;
 use net::interface::Net;
 use normal::reduce::reduce_seated;
 use normal::seats::Seats;
@@ -30,6 +29,7 @@ impl Table {
         ensures after { AfterOpen result (L.Net.model left.now) (R.Net.model right.now) self.old self.new }
         ensures decides { SheetsDecide (L.Net.model left.now) (R.Net.model right.now) left_buffer.old right_buffer.old }
     {
+        // Left and right stand apart, and in no array: they are nets of two makes.
         let mut left_seats = Seats::new();
         let mut right_seats = Seats::new();
         let on_left = reduce_seated(left, left_buffer, &mut left_seats);
@@ -40,12 +40,7 @@ impl Table {
         if !same_sheet(left_sheet, right_sheet) {
             return Err(OpenRefusal::Differ);
         }
-        *self = Table {
-            left: Half::new(Drawing::copy_of(left), left_seats),
-            right: Half::new(Drawing::copy_of(right), right_seats),
-            opened: true,
-            owed: None,
-        };
+        self.game = Some(Game::between(left, left_seats, right, right_seats));
         Ok(())
     }
 }

@@ -1,65 +1,51 @@
-// What a pen writes: each call gives the pen as it is after it.
-ghost use Rattle.std.specs.Prelude.{◌≡◌, ℕ, ◌+◌, ◌*◌, ◌^◌, ◌<◌, ◌≤◌, List, [], ◌∷◌, ◌++◌, length, drop};
-ghost use Rattle.format.specs.Fields.{bytes_of, bytes_for, fill_for};
-ghost use Rattle.writer.specs.Ink.{Inks, Writes, bits_at};
+// What a pen writes.
+ghost use Rattle.std.specs.Prelude.{◌≡◌, ◌*◌, ◌^◌, ◌<◌, ◌≤◌, [], ◌∷◌, length};
+ghost use Rattle.writer.specs.Ink.{Inks, Writes, HasRoom, Filled, bits_at};
 
 use super::Pen;
 
-impl Pen {
-    // A pen at the front of the buffer.
-    pub(crate) fn start() -> Pen
-        ensures { (result.at ≡ 0) × (result.held ≡ 0) × (result.count ≡ 0) }
+impl<'b> Pen<'b> {
+    // A pen at the front of a buffer.
+    pub(crate) fn new(buffer: &'b mut [u8]) -> Pen<'b>
+        ensures same { result.buffer.ghost_name ≡ buffer.entry.ghost_name }
+        ensures empty { Inks buffer.old 0 0 result }
     {
         Pen {
+            buffer,
             at: 0,
             held: 0,
             count: 0,
         }
     }
 
-    // Writes a field of at most eight bits.
-    pub(crate) fn push(self, buffer: &mut [u8], width: u8, value: u8) -> Pen
-        requires narrow { width ≤ 8 }
+    // Writes a field of at most sixteen bits: the whole bytes go out, and the bits that are left are held.
+    pub(crate) fn push(&mut self, width: u8, value: u16)
+        requires narrow { width ≤ 16 }
         requires fits { value < 2 ^ width }
-        requires room { self.at < length buffer.old }
-        ensures { Writes ((width, value) ∷ []) buffer.old self buffer.new result }
+        requires room { HasRoom ((width, value) ∷ []) self.old }
+        ensures { Writes ((width, value) ∷ []) self.old self.new }
     {
-        let wide = (self.held << width) + value as u16;
+        let bits = (u32::from(self.held) << width) + u32::from(value);
         let count = self.count + width;
-        if count < 8 {
-            return Pen {
-                at: self.at,
-                held: wide,
-                count,
-            };
-        }
-        let left = count - 8;
-        buffer[self.at] = (wide >> left) as u8;
-        Pen {
-            at: self.at + 1,
-            held: wide & ((1 << left) - 1),
-            count: left,
-        }
-    }
-
-    // Writes a label, of ten bits.
-    pub(crate) fn push_label(self, buffer: &mut [u8], label: u16) -> Pen
-        requires fits { label ≤ 1023 }
-        requires room { bits_at self + 10 ≤ 8 * length buffer.old }
-        ensures { Writes ((10, label) ∷ []) buffer.old self buffer.new result }
-    {
-        let high = self.push(buffer, 8, (label / 4) as u8);
-        high.push(buffer, 2, (label % 4) as u8)
+        let left = count % 8;
+        let whole = usize::from(count / 8);
+        let end = self.at + whole;
+        let ready = (bits >> left).to_be_bytes();
+        self.buffer[self.at..end].copy_from_slice(&ready[4 - whole..]);
+        self.at = end;
+        self.held = (bits % (1 << left)) as u8;
+        self.count = left;
     }
 
     // Fills the last byte with zero bits: how many bytes there are.
-    pub(crate) fn finish(self, buffer: &mut [u8]) -> usize
-        requires room { bits_at self ≤ 8 * length buffer.old }
-        ensures { (old : List ℕ) (v s : ℕ) → Inks old v s buffer.old self → (result ≡ bytes_for s) × (buffer.new ≡ bytes_of (bytes_for s) (v * 2 ^ fill_for s) ++ drop (bytes_for s) old) }
+    pub(crate) fn finish(&mut self) -> usize
+        requires { bits_at self.old ≤ 8 * length self.old.buffer.now }
+        ensures same { self.new.buffer.ghost_name ≡ self.old.buffer.ghost_name }
+        ensures filled { Filled self.old result self.new.buffer.now }
     {
-        if self.count == 0 {
-            return self.at;
+        if self.count > 0 {
+            self.push(8 - self.count, 0);
         }
-        self.push(buffer, 8 - self.count, 0).at
+        self.at
     }
 }

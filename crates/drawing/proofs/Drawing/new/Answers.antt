@@ -1,31 +1,30 @@
-use Rattle.std.proofs.Common.{◌≡◌, replicate, refl}
-use mathlib.Core.Path.{fun_ext}
-use Rattle.drawing.specs.Arrays.{model_of}
-use Rattle.net.specs.Model.{empty}
-use Rattle.drawing.specs.declared.arrays.Arrays.{Arrays}
-use Rattle.net.proofs.Agrees.{same_answers}
-use Rattle.net.proofs.Empty.{lawful_empty}
-use Rattle.drawing.proofs.Held.{held}
+use Rattle.std.proofs.Common.{◌≡◌, ℕ, List, replicate, rules, refl}
 use Rattle.finite.proofs.Tables.{zero_list}
-use Rattle.drawing.proofs.Zeros.{zero_table, zero_wide}
+use Rattle.net.specs.Model.{Lawful, empty}
+use Rattle.net.proofs.Empty.{lawful_empty}
+use Rattle.drawing.specs.Arrays.{Shows}
+use Rattle.drawing.specs.declared.arrays.Row.{Row}
+use Rattle.drawing.proofs.Held.{Holds, held, held_net, net_in}
+use Rattle.drawing.proofs.Made.{repeated}
 use Rattle.drawing.proofs.Drawing.new.Goals as goal
 
-abbrev zeros : Arrays
-zeros = record {
-  places = 0;
-  transitions = 0;
-  place_labels = replicate 64 0;
-  transition_labels = replicate 128 0;
-  causes = replicate 128 (replicate 64 0);
-  effects = replicate 128 (replicate 64 0);
-}
+module _ (ls : List ℕ) (rs : List Row) (e : ls ≡ replicate 64 0) (f : rs ≡ replicate 128 (record { label = 0; cause = replicate 64 0; effect = replicate 64 0 })) where
+  blank : Holds empty 0 0 ls rs
+  blank = record {
+    places = refl;
+    transitions = refl;
+    labels = rw e (zero_list 64);
+    rows = rw f (λ t. repeated (Shows empty t) _ _ (record { label = refl; cause = zero_list 64; effect = zero_list 64 }) (record { label = refl; cause = λ _. refl; effect = λ _. refl }) 128 t);
+  }
 
-zeros_empty : model_of zeros ≡ empty
-zeros_empty = same_answers _ _ refl refl (fun_ext (zero_list 64)) (fun_ext (zero_list 128))
-    (fun_ext (λ t. fun_ext (zero_table 128 64 t))) (fun_ext (λ t. fun_ext (zero_table 128 64 t)))
+  blank_held : Lawful (net_in 0 0 ls rs)
+  blank_held = held empty 0 0 ls rs blank lawful_empty
 
-pub invariant_of-result : goal.invariant_of-result
-invariant_of-result c = held zeros empty (refl, refl, refl, refl) (zero_wide 128 64, zero_wide 128 64) zeros_empty lawful_empty
+  blank_net : net_in 0 0 ls rs ≡ empty
+  blank_net = held_net empty 0 0 ls rs blank
+
+pub invariant_of-result-2 : goal.invariant_of-result-2
+invariant_of-result-2 c = search (rules, blank_held)
 
 pub returns : goal.returns
-returns c = zeros_empty
+returns c = search (rules, blank_net)

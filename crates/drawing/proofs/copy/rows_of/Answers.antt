@@ -1,18 +1,15 @@
-use Rattle.std.proofs.Common.{inr, arith}
-use Rattle.drawing.proofs.Filled.{filled_more, rows_none, rows_all}
-use Rattle.net.proofs.Weights.{weights_outside}
+use Rattle.std.proofs.Common.{◌≡◌, inr, sym, refl, rules, arith}
+use Rattle.drawing.specs.Arrays.{Shows}
+use Rattle.drawing.proofs.Made.{made}
 use Rattle.drawing.proofs.copy.rows_of.Goals as goal
-
-pub loop-t-init : goal.loop-t-init
-loop-t-init g c = rows_none 128 64 _
-
-pub loop-t-preserved : goal.loop-t-preserved
-loop-t-preserved g c = filled_more _ _ c.loop-t.invariant _
-    (omega (arith, c.transitions-t-end.ensures, (g.N.Net.lawful c.args.net.now).few_transitions))
-    (λ _. c.row_of.ensures.long, c.row_of.ensures.reads)
 
 pub returns : goal.returns
 returns g c =
-    let all = rows_all _ _ _ _ _ c.loop-t.invariant
-    (λ t p l. weights_outside c.args.bag _ (g.N.Net.lawful c.args.net.now) t p (inr (omega (arith, c.transitions-t-end.ensures)))) in
-    record { long = c.loop-t.invariant.long; wide = λ t. (all t).0; reads = λ t. (all t).1 }
+    let m = g.N.Net.model c.args.net.now in
+    let lawful = g.N.Net.lawful c.args.net.now in
+    made (λ f. f.0.now ≡ c.args.net.now) (Shows m) (λ f f' i x s h. search rules) _ _ _ _ refl c.from_fn.ensures.items
+    (λ k l. record {
+      label = sym (lawful.transition_labels.1 k (omega (arith, lawful.few_transitions)));
+      cause = λ p. sym (lawful.causes k p (inr (omega (arith, lawful.few_transitions))));
+      effect = λ p. sym (lawful.effects k p (inr (omega (arith, lawful.few_transitions))));
+    })

@@ -11,8 +11,8 @@ returns-then-as_many g c =
     let even = c.if-as_many.ensures in
     let divides = final_divided m c.loop-next.rounds c.loop-next.groups c.next_round-next.result c.loop-next.invariant c.next_round-next.ensures even in
     record {
-      places = divides.place_groups;
-      transitions = divides.transition_groups;
+      places = divides.on_places.number;
+      transitions = divides.on_transitions.number;
       rounds = sym (rested m c.loop-next.rounds c.loop-next.groups c.next_round-next.result c.loop-next.invariant c.next_round-next.ensures even);
       groups = divides;
     }

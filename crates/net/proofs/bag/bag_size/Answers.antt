@@ -1,13 +1,8 @@
-use Rattle.std.proofs.Common.{sum, ap, ◌∙◌, arith, rules}
-use Rattle.std.proofs.lemmas.List.{take_all}
-use Rattle.std.proofs.lemmas.List.Sums.{sum_by_more}
+use Rattle.std.proofs.Common.{◌^◌, rules, arith}
+use Rattle.std.proofs.lemmas.Iterator.{YieldsList-from_slice}
+use Rattle.std.proofs.lemmas.Iterator.Adapters.{fits_from_length, at_most_from_yields_List}
 use Rattle.net.proofs.bag.bag_size.Goals as goal
 
-pub loop-w-preserved : goal.loop-w-preserved
-loop-w-preserved c = (
-  omega (arith, c.loop-w.invariant.0, sum_by_more (λ x. x) c.args.row.now c.loop-w.w-index 0 (omega arith)),
-  search rules,
-)
-
-pub returns : goal.returns
-returns c = c.loop-w.invariant.0 ∙ ap sum (take_all c.loop-w.w-index c.args.row.now (omega arith))
+pub sum-requires-clause-fits : goal.sum-requires-clause-fits
+sum-requires-clause-fits c =
+    fits_from_length _ _ 64 (2 ^ 16) (at_most_from_yields_List (YieldsList-from_slice c.args.row.now cc) (omega (arith, c.told-row))) c.map.ensures.closure (omega arith) (λ x r q k. search rules)

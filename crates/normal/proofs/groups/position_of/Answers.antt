@@ -1,21 +1,19 @@
-use Rattle.std.proofs.Common.{◌≡◌, ℕ, eqb, sym, ap, ◌∙◌, ⊎_elim, arith}
-use Rattle.std.proofs.lemmas.Bool.{eq-eqb, ne_eqb, cases_eq, both_ways}
-use Rattle.finite.proofs.Searches.{first_is, first_cases}
-use Rattle.arrangement.specs.Arrangements.{at}
+use Rattle.std.proofs.Common.{rules, tests, ◌≡◌, nat_eq, sym, ◌∙◌}
+use Rattle.std.specs.List.{position}
+use Rattle.std.proofs.lemmas.Iterator.{YieldsList-from_slice}
+use Rattle.std.proofs.lemmas.Iterator.Search.{position_from_yields_List}
+use Rattle.normal.proofs.Chains.{first_found, none_found}
 use Rattle.normal.proofs.groups.position_of.Goals as goal
 
-pub loop-i-preserved : goal.loop-i-preserved
-loop-i-preserved c = λ j l. ⊎_elim
-    (λ (e : j ≡ c.loop-i.i). ap (λ (k : ℕ). eqb (at c.args.order.now k) c.args.x) e ∙ ne_eqb _ _ c.if-order-i.false)
-    (λ e. c.loop-i.invariant j (omega arith))
-    (cases_eq j c.loop-i.i)
-
-pub returns-then-order-i : goal.returns-then-order-i
-returns-then-order-i c = sym (first_is c.args.n _ c.loop-i.i
-    (record { lands = omega arith; passes = eq-eqb _ _ c.if-order-i.true; least = c.loop-i.invariant }))
+pub returns-in_err-position : goal.returns-in_err-position
+returns-in_err-position c =
+    let order = c.args.order.now in
+    let e : c.position.result ≡ position (λ y. nat_eq y c.args.x) order = position_from_yields_List (λ y. nat_eq y c.args.x) _ _ c.position.result c.position.ensures.ran (YieldsList-from_slice order (cc)) (λ x b q k. search (rules, tests)) in
+    let none = none_found (λ y. nat_eq y c.args.x) order (sym e ∙ c.in_err-position.was) in
+    search (rules, none)
 
 pub returns : goal.returns
-returns c = ⊎_elim
-    (λ r. absurd (both_ways _ (c.loop-i.invariant _ (omega (arith, r.lands))) r.passes))
-    (λ r. sym r.0)
-    (first_cases c.args.n (λ i. eqb (at c.args.order.now i) c.args.x))
+returns c =
+    let order = c.args.order.now in
+    let e : c.position.result ≡ position (λ y. nat_eq y c.args.x) order = position_from_yields_List (λ y. nat_eq y c.args.x) _ _ c.position.result c.position.ensures.ran (YieldsList-from_slice order (cc)) (λ x b q k. search (rules, tests)) in
+    first_found (λ y. nat_eq y c.args.x) order _ (sym e ∙ c.in_ok-position.was)

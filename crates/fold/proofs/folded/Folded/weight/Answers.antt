@@ -1,30 +1,23 @@
-use Rattle.std.proofs.Common.{get_or, sym, ◌∙◌, arith}
-use Rattle.fold.proofs.Layered.{group_below, leader_below, weight_read}
+use Rattle.std.proofs.Common.{length, sym, ◌∙◌, arith}
+use Rattle.fold.proofs.Layered.{leader_below, weight_read}
 use Rattle.fold.proofs.folded.Folded.weight.Goals as goal
-
-pub bounds-self-transition : goal.bounds-self-transition
-bounds-self-transition g c =
-    let x = c.args.self.now in
-    let grouping = x.groups.now in
-    omega (arith, grouping.few.1, group_below (λ i. get_or grouping.transition_leaders i 0) grouping.transitions x.transition_groups x.transition_leaders c.args.transition.0 x.counted.1 (omega arith))
-
-pub bounds-self-place : goal.bounds-self-place
-bounds-self-place g c =
-    let x = c.args.self.now in
-    let grouping = x.groups.now in
-    omega (arith, grouping.few.0, group_below (λ i. get_or grouping.place_leaders i 0) grouping.places x.place_groups x.place_leaders c.args.place.0 x.counted.0 (omega arith))
 
 pub group_weight-requires : goal.group_weight-requires
 group_weight-requires g c =
     let x = c.args.self.now in
-    let grouping = x.groups.now in
-    omega (arith, grouping.few.0, leader_below (λ i. get_or grouping.place_leaders i 0) grouping.places x.place_groups x.place_leaders c.args.place.0 x.counted.0 x.places (omega arith))
+    let places = x.below.groups.now.places in
+    omega (
+      arith,
+      places.few,
+      c.in-Some-get.ensures.1,
+      leader_below places.leaders places.members (length x.places.listed.items) x.places.listed.items c.args.place.0 x.place_leaders.0 x.place_leaders.1 c.in-Some-get.ensures.0,
+    )
 
 pub returns : goal.returns
 returns g c =
     let x = c.args.self.now in
     c.group_weight.ensures
-    ∙ weight_read (g.N.Net.model x.net.now) x.groups.now (sym c.if-not-fits.ensures) c.args.bag c.args.transition.0 c.args.place.0
-    (get_or x.transition_leaders c.args.transition.0 0) (get_or x.place_leaders c.args.place.0 0)
-    (omega (arith, x.counted.1)) (omega (arith, x.counted.0))
-    (x.transitions c.args.transition.0 (omega arith)) (x.places c.args.place.0 (omega arith))
+    ∙ weight_read (g.N.Net.model x.below.net.now) x.below.groups.now (sym c.if-not-fits.ensures) c.args.bag c.args.transition.0 c.args.place.0
+    c.in-Some.leader.0 c.in-Some-get.member.0
+    (omega (arith, x.transition_leaders.0, c.in-Some.ensures.0)) (omega (arith, x.place_leaders.0, c.in-Some-get.ensures.0))
+    (c.in-Some.ensures.1 ∙ x.transition_leaders.1 c.args.transition.0 c.in-Some.ensures.0) (c.in-Some-get.ensures.1 ∙ x.place_leaders.1 c.args.place.0 c.in-Some-get.ensures.0)

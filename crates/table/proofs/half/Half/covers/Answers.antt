@@ -1,20 +1,14 @@
-use Rattle.std.proofs.Common.{sym, arith, below_more}
-use Rattle.play.proofs.Tokens.{at_held}
-use Rattle.play.proofs.Markings.{covers_from, covers_fails}
+use Rattle.std.proofs.Common.{ℕ, Bool, leb, rules, tests, ap, ◌∙◌}
+use Rattle.finite.specs.Below.{all_below}
+use Rattle.finite.proofs.Ranges.{all_range}
+use Rattle.arrangement.specs.Arrangements.{at}
+use Rattle.play.specs.Moves.{takes, covers}
 use Rattle.table.specs.Views.{net_of, held}
 use Rattle.table.proofs.half.Half.covers.Goals as goal
 
-pub returns-then-self-x : goal.returns-then-self-x
-returns-then-self-x c =
-    let s = c.args.self.now in
-    let e = at_held s.tokens (net_of s).places c.loop-x.x (omega arith) in
-    sym (covers_fails (net_of s) (held s) c.args.sort c.args.number c.loop-x.x (omega arith) (omega (arith, e, c.takes.ensures, c.if-self-x.true)))
-
-pub loop-x-preserved : goal.loop-x-preserved
-loop-x-preserved c =
-    let s = c.args.self.now in
-    let e = at_held s.tokens (net_of s).places c.loop-x.x (omega arith) in
-    below_more _ c.loop-x.x c.loop-x.invariant (omega (arith, e, c.takes.ensures, c.if-self-x.false))
-
 pub returns : goal.returns
-returns c = let s = c.args.self.now in sym (covers_from (net_of s) (held s) c.args.sort c.args.number (λ x l. c.loop-x.invariant x (omega arith)))
+unfolding covers
+returns c =
+    let s = c.args.self.now in
+    let f : ℕ → Bool = λ x. leb (takes (net_of s) c.args.step.sort c.args.step.number x) (at (held s) x) in
+    all_range f c.places.result _ _ _ c.all.ensures.ran (λ x b q k. search (rules, tests)) ∙ ap (λ (n : ℕ). all_below n f) c.places.ensures

@@ -1,15 +1,17 @@
-use Rattle.std.proofs.Common.{◌≡◌, ◌-◌, arith}
-use Rattle.format.specs.Fields.{spelt, size, bytes_for, fill_for}
-use Rattle.writer.proofs.Inking.{ink_end}
+use Rattle.std.proofs.Common.{sym, subst, arith}
+use Rattle.format.specs.Fields.{size}
+use Rattle.writer.specs.declared.pen.Pen.{Pen}
+use Rattle.writer.specs.Ink.{Filled}
+use Rattle.writer.proofs.Filling.{filled_push, filled_still}
 use Rattle.writer.proofs.pen.Pen.finish.Goals as goal
+use Rattle.writer.proofs.pen.Pen.finish.Goals.{then-self-gt0, else-self-gt0}
 
-pub returns : goal.returns
-unfolding spelt size
-returns c = λ old v s i.
-    let r = c.push.result in
-    let p = c.args.self in
-    let j = c.push.ensures.inked old v s i in
-    let n : r.count ≡ 0 = omega (arith, c.push.ensures.sized, r.short, p.short) in
-    let w : 8 - p.count ≡ fill_for s = omega (arith, i.sized, p.short) in
-    let at : r.at ≡ bytes_for s = omega (arith, i.sized, c.push.ensures.sized, p.short, r.short) in
-    (at, ink_end old v s (8 - p.count) c.push.new.buffer r.at r.held r.count (record { text = j.text; rest = j.rest; sized = omega (arith, j.sized) }) n w at)
+pub push-requires-clause-room : goal.push-requires-clause-room
+unfolding size
+push-requires-clause-room c = omega (arith, c.requires, c.if-self-gt0.true, c.args.self.now.short)
+
+pub returns-clause-filled : goal.returns-clause-filled
+returns-clause-filled c = elim c.if-self-gt0.branch [
+  | then-self-gt0 w ↦ subst (λ (q : Pen). Filled c.args.self.now q.at q.buffer.now) (sym w.self-is) (filled_push w.push.ensures w.if-self-gt0.true)
+  | else-self-gt0 w ↦ subst (λ (q : Pen). Filled c.args.self.now q.at q.buffer.now) (sym w.self-is) (filled_still c.args.self.now (omega (arith, w.if-self-gt0.false)))
+]

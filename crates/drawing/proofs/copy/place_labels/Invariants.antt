@@ -1,5 +1,0 @@
-use Rattle.drawing.proofs.Filled.{Numbers}
-use Rattle.drawing.proofs.copy.place_labels.Given as goal
-
-abbrev pub invariant-loop-p : goal.invariant-loop-p
-invariant-loop-p g l = Numbers 64 (g.N.Net.model l.net).place_label l.p l.labels

@@ -1,5 +1,0 @@
-use Rattle.std.proofs.Common.{arith}
-use Rattle.net.proofs.interface.place_label_number.Goals as goal
-
-pub returns-in-Some : goal.returns-in-Some
-returns-in-Some g c = (c.in-Some.ensures.1, omega (arith, c.in-Some.ensures.1, (g.N.Net.lawful c.args.net.now).place_labels.0 c.args.place.0))

@@ -1,6 +1,0 @@
-use Rattle.std.proofs.Common.{◌≡◌, ℕ, ◌<◌, length}
-use Rattle.arrangement.specs.Arrangements.{at}
-use Rattle.search.proofs.first.numbered_transitions.Given as goal
-
-abbrev pub invariant-loop-k : goal.invariant-loop-k
-invariant-loop-k l = (length l.all ≡ 128) × ((q : ℕ) → q < l.k → at l.all q ≡ q)

@@ -1,7 +1,0 @@
-use Rattle.std.proofs.Common.{◌≡◌, ℕ, ◌<◌, length}
-use Rattle.arrangement.specs.Arrangements.{at}
-use Rattle.table.specs.Views.{net_of, held, count_before}
-use Rattle.table.proofs.half.Half.before.Given as goal
-
-abbrev pub invariant-loop-x : goal.invariant-loop-x
-invariant-loop-x l = (length l.old ≡ 64) × ((y : ℕ) → y < l.x → at l.old y ≡ count_before (net_of l.self) (held l.self) l.sort l.number y)
