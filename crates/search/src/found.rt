@@ -32,10 +32,13 @@ impl Found<'_> {
         ensures better { let m = model_of self.old.net.now in at_most (rows_along m (at self.new.best.places)) (rows_along m (at self.old.best.places)) ≡ true }
         ensures met { let m = model_of self.old.net.now in at_most (rows_along m (at self.new.best.places)) (rows_along m (at cells.now.places)) ≡ true }
     {
-        cells.sort_rows(&mut self.last);
+        // Sorted in a local: the search took more than half as long again where `self.last` was sorted in place.
+        let mut last = self.last;
+        cells.sort_rows(&mut last);
+        self.last = last;
         let met = Ranking {
             places: cells.places,
-            transitions: self.last,
+            transitions: last,
         };
         if met.compare(&self.best, self.net).is_lt() {
             self.best = met;
