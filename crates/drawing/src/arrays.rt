@@ -43,7 +43,7 @@ impl Row {
 // The limits are fixed and nothing is allocated, so the arrays have one size, and a count says how many are in use. A vector of
 // fixed capacity for each would be no plainer: the count of places goes for the labels and for both bags of every row, which
 // would each hold it again, and a net answers its counts as `u8`. Labels are plain numbers here, since past the last node
-// stands 0, which is nobody's `Label`, and since callers order them, which a `Label` is not made for.
+// stands 0, where there is no node to have a `Label`, and since callers order them, which a `Label` is not made for.
 /// As many places and transitions as there can be, of which the first are in use.
 #[derive(Clone, Copy)]
 pub struct Arrays {

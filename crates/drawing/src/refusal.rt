@@ -17,6 +17,7 @@ pub enum DrawingRefusal {
 }
 
 impl DrawingRefusal {
+    // A method of each refusal enum: a number is read off by a cast, which a trait would repeat in each of its impls.
     /// The number under which the refusal is listed.
     pub fn number(self) -> u8
         ensures { result ≡ number_of self }

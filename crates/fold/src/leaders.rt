@@ -45,6 +45,7 @@ impl<K: Node, const MOST: usize> Leaders<K, MOST> {
     pub fn get(&self, group: K) -> Option<K>
         ensures { MatchOption result (array_vec_len self.now.listed ≤ K.number group) (λ l. (K.number group < array_vec_len self.now.listed) × (K.number l ≡ slice_index_or self.now.listed.items (K.number group) 0)) }
     {
+        // As `Division::leader_of`: one function for both lists would need a third contract, as long as either.
         let leaders = self.listed.as_slice();
         let leader = leaders.get(usize::from(group.number()));
         leader.map(|l| K::nth(*l))

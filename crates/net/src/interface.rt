@@ -6,7 +6,7 @@ use super::numbers::{Label, PlaceNo, TransitionNo};
 
 /// One net, by six questions. Past the last place or transition a label is none and a weight is 0.
 // Users implement these six and no others, so questions on places and on transitions, and on causes and on effects, stay twins;
-// `Node` and `weight` ask them by one text.
+// `Node` and `weight` ask them by one text. A weight that is 0 past the last is as they implement it.
 pub trait Net {
     // the net that answers
     ghost model: { Self → Model };

@@ -50,7 +50,8 @@ fn write_ranked(net: &Drawing, ranking: Ranking, buffer: &mut [u8]) -> Result<us
     write(&ordered, buffer)
 }
 
-// The seats of a net's places and transitions, from the leaders of their groups and the ranking of the groups.
+// The seats of a net's places and transitions, from the leaders of their groups and the ranking of the groups, whose counts come
+// beside it: a ranking has none, as `Ranking` says.
 fn seats_along<N: Net>(
     net: &N,
     groups: &Grouping,

@@ -15,6 +15,7 @@ pub enum ReduceRefusal {
 }
 
 impl ReduceRefusal {
+    // A method of each refusal enum: a number is read off by a cast, which a trait would repeat in each of its impls.
     /// The number under which the refusal is listed.
     pub fn number(self) -> u8
         ensures { result ≡ number_of self }

@@ -11,7 +11,7 @@ use itoa::Buffer;
 pub(crate) type Line = ArrayString<24>;
 
 // A number and the character that ends it.
-fn column(n: u8, end: char) -> ArrayString<4>
+pub(crate) fn column(n: u8, end: char) -> ArrayString<4>
     requires { end < 128 }
     ensures { result.bytes ≡ decimal n ++ end ∷ [] }
 {

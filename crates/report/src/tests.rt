@@ -1,4 +1,5 @@
 // Reports on a few inputs.
+use super::line::column;
 use super::report::report;
 use arrayvec::ArrayString;
 use itoa::Buffer;
@@ -12,6 +13,12 @@ fn numbers(rt: HostRuntime) -> Result<(), Fail> {
     text.push_str(Buffer::new().format(65535u16));
     assert_eq!(rt; text.as_bytes(), b"04032065535".as_slice());
     Ok(())
+}
+
+#[test]
+fn columns(rt: HostRuntime) {
+    assert_eq!(rt; column(0, ' ').as_bytes(), b"0 ".as_slice());
+    assert_eq!(rt; column(255, '\n').as_bytes(), b"255\n".as_slice());
 }
 
 #[test]

@@ -17,7 +17,7 @@ use std::cmp::Ordering;
 // A branch of the search: cells, and an order of the transitions, of which the first `fixed` have the first positions and the
 // same rows along each order of the cells (`rows`). The order has each transition once (`all`). Each order of the cells is an
 // arrangement (`arranged`), and no two transitions agree in label, cause and effect (`distinct`). The order is an array and no
-// struct with that fact: it is swapped at one place and sorted at another, each with its own count.
+// struct with that fact, as the last order is: one is swapped and the other sorted, and each use would open the struct again.
 #[derive(Clone, Copy)]
 pub(crate) struct Branch<'n> {
     pub(crate) cells: Cells<'n>,

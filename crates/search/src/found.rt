@@ -12,7 +12,8 @@ use drawing::arrays::Arrays;
 
 // The best ranking of a net so far, and the order of its transitions that was met last, from which the next one is sorted. The
 // best is an arrangement, with the transitions sorted by their rows (`good`), and the last order has each transition once
-// (`listed`). It has the net in it, as the cells do: else each method would be given the net, and ask that it is the same.
+// (`listed`). The net is in it, as it is in the cells, so that no method is given one; that the two have one net is asked. Arrays: nothing
+// is allocated, and the counts are the net's.
 #[derive(Clone, Copy)]
 pub(crate) struct Found<'n> {
     pub(crate) net: &'n Arrays,

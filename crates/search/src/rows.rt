@@ -38,7 +38,8 @@ fn compare_weights(x: &[u8; 64], a: &[u8], y: &[u8; 64], b: &[u8]) -> Ordering
 impl RowAlong<'_> {
     ghost use Rattle.search.specs.Along.{numbers_of};
 
-    // Compares two rows of one net: the labels, then the causes, then the effects.
+    // Compares two rows of one net: the labels, then the causes, then the effects. No `Ord`, here and for rankings: `cmp` could not ask
+    // that both are of one net.
     pub(crate) fn compare(&self, other: &RowAlong) -> Ordering
         requires { other.now.net.now ≡ self.now.net.now }
         ensures { Compares result (numbers_of self.now) (numbers_of other.now) }

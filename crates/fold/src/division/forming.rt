@@ -14,7 +14,7 @@ fn lowest_alike<K: Node, L: Likeness<K>>(by: &L, node: K) -> u8
     ensures { result ≡ lowest (L.like by.now) (L.size by.now) (K.number node) }
 {
     let p = node.number();
-    // A loop: `alike` is called after `K::nth`, and of two calls a closure with no clauses keeps too little.
+    // A loop: with `find` the closure would need clauses, since `alike` asks something and is called after `K::nth`; no plainer.
     for q in 0..p {
         if by.alike(K::nth(q), node) {
             return q;

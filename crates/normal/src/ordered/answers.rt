@@ -18,10 +18,7 @@ fn standing<K: Node>(net: &Drawing, order: &[u8], position: K) -> Option<K>
     ensures { MatchOption result (K.count (drawn net.now) ≤ K.number position) (λ k. (K.number position < K.count (drawn net.now)) × (K.number k ≡ at order.now (K.number position))) }
 {
     let i = position.number();
-    if i >= K::count(net) {
-        return None;
-    }
-    Some(K::nth(order[usize::from(i)]))
+    (i < K::count(net)).then(|| K::nth(order[usize::from(i)]))
 }
 
 impl Ordered<'_> {
@@ -51,11 +48,11 @@ impl Net for Ordered<'_> {
         self.net.transitions()
     }
 
-    // The questions of `Net` name the kinds, so each label has its own; what the two share is `standing`. A label is read as a number:
-    // nothing is kept here of the order of the transitions, so that what stands at a position might be past the last, labelled 0.
+    // The questions of `Net` name the kinds, so each label has its own; what the two share is `standing`. A transition's label is read
+    // as a number: of the transitions' order nothing is kept here, so what stands at a position might be past the last, labelled 0.
     fn place_label(&self, place: PlaceNo) -> Option<Label> {
         let below = standing(self.net, &self.ranking.places, place)?;
-        Some(Label(label_number(self.net, below)))
+        self.net.place_label(below)
     }
 
     fn transition_label(&self, transition: TransitionNo) -> Option<Label> {

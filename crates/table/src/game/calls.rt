@@ -51,6 +51,7 @@ impl Game {
         ensures after { state_in self.new ≡ withdrawn (state_in self.old) lead }
         ensures refused { AsBefore result self.old self.new }
     {
+        // The test of `answer` again, since each raises its own refusal.
         if !self.owes(lead) {
             return Err(WithdrawRefusal::NotOwed);
         }

@@ -101,6 +101,7 @@ impl Half {
     fn cover(&self, step: Move) -> Option<Shift<'_>>
         ensures { MatchOption result (covers (net_of self.now) (held self.now) step.sort step.number ≡ false) (λ s. IsShift s self.now step Cause × (covers (net_of self.now) (held self.now) step.sort step.number ≡ true)) }
     {
+        // Not by `then`: its closure would have to ask what the ghost field says, as long again as this.
         if !self.covers(step) {
             return None;
         }

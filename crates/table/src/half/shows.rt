@@ -51,7 +51,7 @@ impl Half {
         self.reply(lead, number).is_ok()
     }
 
-    // Whether a transition has a label and can fire.
+    // Whether a transition has a label and can fire; labels are compared as in `labelled`.
     fn fires(&self, transition: u8, label: Label) -> bool
         ensures { result ≡ ((net_of self.now).transition_label transition == label.0 && covers (net_of self.now) (held self.now) Fire transition) }
     {
