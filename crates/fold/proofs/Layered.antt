@@ -75,12 +75,6 @@ module _ (m : Model) (g : Grouping) where
       (sized : size (fold m (groups_of g)) ≡ groups (together leaders) (size m))
       (labelled : label (fold m (groups_of g)) ≡ leader_label (together leaders) (size m) (label m))
       (count : ℕ) (listed : List ℕ) (counted : NumberOfGroups (together leaders) n count) (lists : Lists (together leaders) n count listed) where
-    pub count_read : (r : ℕ) → r ≡ cond (fits m g) count (size m) → r ≡ size (folded_by m g)
-    count_read r e = elim (cases_Bool (fits m g)) [
-      | inl y ↦ e ∙ cond-true (fits m g) count (size m) y ∙ counted ∙ ap (groups (together leaders)) (sym (same y)) ∙ sym sized ∙ ap size (sym (is_fold y))
-      | inr y ↦ e ∙ cond-false (fits m g) count (size m) y ∙ ap size (sym (is_net y))
-    ]
-
     pub label_answers : (p x : ℕ) (r : Option Label) → (fits m g ≡ true → p < count) → x ≡ cond (fits m g) (get_or listed p 0) p →
         MatchOption r (size m ≤ x) (λ l. (x < size m) × (l.0 ≡ label m x)) →
         MatchOption r (size (folded_by m g) ≤ p) (λ l. (p < size (folded_by m g)) × (l.0 ≡ label (folded_by m g) p))
