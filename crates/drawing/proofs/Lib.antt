@@ -1,4 +1,4 @@
 mod Edited
+mod Filled
 mod Held
-mod Made
 mod Reweighing

@@ -43,30 +43,30 @@ holds : (bag : Bag) (m : Model) (t p w : ℕ) (ls : List ℕ) (rs : List Row) �
 holds Cause m t p w ls rs labels rows = record { places = refl; transitions = refl; labels = labels; rows = rows }
 holds Effect m t p w ls rs labels rows = record { places = refl; transitions = refl; labels = labels; rows = rows }
 
-row_with_long : (bag : Bag) (r : Row) (p w : ℕ) → length (bag_of bag (row_with bag r p w)) ≡ length (bag_of bag r)
-row_with_long Cause r p w = length-set r.cause p w
-row_with_long Effect r p w = length-set r.effect p w
+bag_of_row_with : (bag : Bag) (r : Row) (p w : ℕ) → bag_of bag (row_with bag r p w) ≡ set (bag_of bag r) p w
+bag_of_row_with Cause r p w = refl
+bag_of_row_with Effect r p w = refl
 
--- The row is that of a transition and a place that the drawing has, with the weight written; xs are the weights of its bag.
+-- The row is that of a transition and a place that the drawing has, and xs are the weights of its bag, both with the weight written.
 pub record Written (bag : Bag) (d : Drawing) (t p w : ℕ) (row : Row) (xs : List ℕ) : Type 0 where
   pub transition : t < d.arrays.transitions
   pub place : p < d.arrays.places
   pub stored : t < length d.arrays.rows
   pub row_is : row ≡ row_with bag (row_or_blank d.arrays.rows t) p w
-  pub weights_are : xs ≡ bag_of bag row
-  pub long : length xs ≡ 64
+  pub weights_are : xs ≡ set (bag_of bag (row_or_blank d.arrays.rows t)) p w
+  pub long : length (bag_of bag (row_or_blank d.arrays.rows t)) ≡ 64
 
 module _ (bag : Bag) (d : Drawing) (t p w : ℕ) (row : Row) (xs : List ℕ) (h : Written bag d t p w row xs) where
   shown : Shows (with_weight bag (drawn d) t p w) t row
   shown = subst (Shows (with_weight bag (drawn d) t p w) t) (sym h.row_is)
       (row_shows bag (drawn d) t p w (row_or_blank d.arrays.rows t)
-      (omega (arith, h.place, d.arrays.few.0, h.long, ap length h.weights_are, ap (λ (r : Row). length (bag_of bag r)) h.row_is, row_with_long bag (row_or_blank d.arrays.rows t) p w))
+      (omega (arith, h.place, d.arrays.few.0, h.long))
       (record { label = refl; cause = λ _. refl; effect = λ _. refl }))
 
   row_size : sum xs ≡ size_of bag (with_weight bag (drawn d) t p w) t
   row_size =
-      list_sum_of xs d.arrays.places (weights bag (with_weight bag (drawn d) t p w) t) (omega (arith, h.long, d.arrays.few.0))
-      (λ q. ap (λ (ys : List ℕ). get_or ys q 0) h.weights_are ∙ shown_weights bag (with_weight bag (drawn d) t p w) t row shown q)
+      list_sum_of xs d.arrays.places (weights bag (with_weight bag (drawn d) t p w) t) (omega (arith, h.long, ap length h.weights_are, length-set (bag_of bag (row_or_blank d.arrays.rows t)) p w, d.arrays.few.0))
+      (λ q. ap (λ (ys : List ℕ). get_or ys q 0) (h.weights_are ∙ sym (ap (bag_of bag) h.row_is ∙ bag_of_row_with bag (row_or_blank d.arrays.rows t) p w)) ∙ shown_weights bag (with_weight bag (drawn d) t p w) t row shown q)
       (λ q past. with_weight_outside bag (drawn d) t p w (drawn_lawful d) h.transition h.place t q (inl past))
       ∙ sym (size_with_weight bag (drawn d) t p w)
 

@@ -1,6 +1,7 @@
 // The edits of a drawing. A count goes up before the new label is written, since the labels past it are 0.
-ghost use Rattle.std.specs.Prelude.{◌≡◌, ◌<◌, ◌≤◌, MatchResult, IfOk};
+ghost use Rattle.std.specs.Prelude.{◌≡◌, ◌<◌, ◌≤◌, length, MatchResult, IfOk};
 ghost use Rattle.net.specs.Model.{empty, highest_label};
+ghost use Rattle.drawing.specs.Arrays.{bag_of, row_or_blank};
 ghost use Rattle.drawing.specs.Drawn.{drawn};
 ghost use Rattle.drawing.specs.Edits.{with_place, with_transition, with_weight};
 ghost use Rattle.drawing.specs.Refusals.{refusal_of, add_refusal, place_refusal, transition_refusal, weight_refusal};
@@ -73,6 +74,16 @@ impl Drawing {
         Ok(TransitionNo(transition))
     }
 
+    // A copy of the weights of a transition's bag. An edit sums this copy, with the new weight in it: the sum over whichever of a
+    // row's two bags is asked for would go weight by weight.
+    fn weights(&self, bag: Bag, transition: TransitionNo) -> [u8; 64]
+        requires { transition.0 < 128 }
+        ensures weights { result ≡ bag_of bag (row_or_blank self.now.arrays.rows transition.0) }
+        ensures long { length result ≡ 64 }
+    {
+        *self.arrays.rows[usize::from(transition.0)].bag(bag)
+    }
+
     // Bag, transition and place are no struct: a caller goes through bags, transitions and places each by itself, as it does where
     // it asks for the weights, and would build the struct for one call.
     /// Replaces one weight of a transition's cause or effect.
@@ -89,11 +100,13 @@ impl Drawing {
         if transition.0 >= self.arrays.transitions || place.0 >= self.arrays.places {
             return Err(DrawingRefusal::NoSuchNumber);
         }
-        let mut row = self.arrays.rows[usize::from(transition.0)];
-        row.set_weight(bag, place, weight);
-        if bag_size(row.bag(bag)) > LARGEST_BAG {
+        let mut weights = self.weights(bag, transition);
+        weights[usize::from(place.0)] = weight;
+        if bag_size(&weights) > LARGEST_BAG {
             return Err(DrawingRefusal::BagTooLarge);
         }
+        let mut row = self.arrays.rows[usize::from(transition.0)];
+        row.set_weight(bag, place, weight);
         self.arrays.rows[usize::from(transition.0)] = row;
         Ok(())
     }

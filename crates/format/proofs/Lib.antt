@@ -6,4 +6,5 @@ pub mod Refusals
 pub mod Nets
 pub mod Reading
 pub mod Writing
+pub mod Windows
 pub mod Order

@@ -1,8 +1,10 @@
 -- Lists are compared at their first difference, and rows by label, causes and effects.
-use Rattle.std.proofs.Common.{◌≡◌, ℕ, zero, suc, ◌+◌, ◌<◌, ◌≤◌, Bool, true, false, not, List, [], ◌∷◌, ◌++◌, map, length, take, Ordering, Less, Equal, Greater, sym, refl, ap, ◌∙◌, subst, ap₂, inl, inr, arith}
+use Rattle.std.proofs.Common.{◌≡◌, ℕ, zero, suc, ◌+◌, ◌<◌, ◌≤◌, Bool, true, false, not, List, [], ◌∷◌, ◌++◌, map, length, take, get_or, Ordering, Less, Equal, Greater, sym, refl, ap, ◌∙◌, subst, ap₂, inl, inr, arith}
 use Rattle.std.specs.Ordering.{MatchOrdering, nat_cmp, is_lt, is_eq, is_ne}
 use Rattle.std.specs.Cmp.{nat_cmp_is}
 use Rattle.std.specs.List.{range_with_len, flat_map}
+use Rattle.std.proofs.lemmas.List.{length-take, get_or-take}
+use Rattle.std.proofs.lemmas.Grind.{get_or_default_zero}
 use Rattle.std.proofs.lemmas.List.FromFn.{length-map-range_with_len}
 use Rattle.std.proofs.lemmas.Bool.{cases_eq, cases_order, both_ways, not-true, not_from_false, true≢false}
 use Rattle.finite.specs.Lexicographic.{lower, at_most}
@@ -101,6 +103,12 @@ after Less fs xs ys h = lower_front fs xs ys ∙ h
 after Equal fs xs ys h = ap (λ (z : List ℕ). fs ++ z) h
 after Greater fs xs ys h = lower_front fs ys xs ∙ h
 
+-- what an ordering says of two lists, with equal numbers before them
+pub after_label : (o : Ordering) (x y : ℕ) (xs ys : List ℕ) → x ≡ y → Compares o xs ys → Compares o (x ∷ xs) (y ∷ ys)
+after_label Less x y xs ys e h = lower_tail x y xs ys e h
+after_label Equal x y xs ys e h = ap₂ ◌∷◌ e h
+after_label Greater x y xs ys e h = lower_tail y x ys xs (sym e) h
+
 -- two lists after fronts of one length, where the fronts decide unless they are equal
 pub then_compares : {P : Type 0} (o r : Ordering) (fs gs xs ys : List ℕ) → length fs ≡ length gs → Compares o fs gs → MatchOrdering o (r ≡ Less) P (r ≡ Greater) → (P → Compares r xs ys) → Compares r (fs ++ xs) (gs ++ ys)
 then_compares Less r fs gs xs ys l h e _ = subst (λ (z : Ordering). Compares z (fs ++ xs) (gs ++ ys)) (sym e) (front_lower fs gs xs ys l h)
@@ -138,12 +146,16 @@ along_from f (x ∷ xs) ys a (suc n) l h = ap₂ ◌∷◌ (ap f (sym (h 0) ∙ 
 pub along : (f : ℕ → ℕ) (xs : List ℕ) (n : ℕ) → n ≤ length xs → map f (take n xs) ≡ tabulate (λ i. f (at xs i)) n
 along f xs n l = along_from f xs xs 0 n l (λ i. ap (at xs) (omega arith))
 
--- two numbers as lists of one
-pub compares_one : (x y : ℕ) → Compares (nat_cmp x y) (x ∷ []) (y ∷ [])
-compares_one x y = elim (cases_order x y) [
-  | inl e ↦ subst (λ (o : Ordering). Compares o (x ∷ []) (y ∷ [])) (nat_cmp_is x y Equal e) (ap (λ (z : ℕ). z ∷ []) e)
-  | inr (inl l) ↦ subst (λ (o : Ordering). Compares o (x ∷ []) (y ∷ [])) (nat_cmp_is x y Less l) (lower_head x y [] [] l)
-  | inr (inr l) ↦ subst (λ (o : Ordering). Compares o (x ∷ []) (y ∷ [])) (nat_cmp_is x y Greater l) (lower_head y x [] [] l)
+-- the front of an order whose numbers are below a bound
+pub front_below : (xs : List ℕ) (n m : ℕ) → ((i : ℕ) → i < n → at xs i < m) → (k d : ℕ) → k < length (take n xs) → get_or (take n xs) k d < m
+front_below xs n m h k d r = omega (arith, length-take n xs, r, get_or-take n xs k d (omega (arith, length-take n xs)), get_or_default_zero xs k d (omega (arith, length-take n xs)), h k (omega (arith, length-take n xs)))
+
+-- rows whose labels differ are as their labels
+pub row_labels : (N : Model) (a b : ℕ → ℕ) (t u : ℕ) → (N.transition_label t ≡ N.transition_label u → ⊥) → Compares (nat_cmp (N.transition_label t) (N.transition_label u)) (row N a t) (row N b u)
+row_labels N a b t u ne = elim (cases_order (N.transition_label t) (N.transition_label u)) [
+  | inl e ↦ absurd (ne e)
+  | inr (inl l) ↦ subst (λ (o : Ordering). Compares o (row N a t) (row N b u)) (nat_cmp_is _ _ Less l) (row_label N a b t u l)
+  | inr (inr l) ↦ subst (λ (o : Ordering). Compares o (row N a t) (row N b u)) (nat_cmp_is _ _ Greater l) (row_label N b a u t l)
 ]
 
 -- an ordering as tests

@@ -1,5 +1,5 @@
 // The search through the cells: the least row comes next, and the places are divided by it.
-ghost use Rattle.std.specs.Prelude.{◌≡◌, ℕ, ◌+◌, ◌<◌, true, IfSome, IfNone};
+ghost use Rattle.std.specs.Prelude.{◌≡◌, ℕ, ◌+◌, ◌<◌, true};
 ghost use Rattle.finite.specs.Lexicographic.{lower, at_most};
 ghost use Rattle.finite.specs.Injections.{Injects};
 ghost use Rattle.drawing.specs.Arrays.{model_of};
@@ -36,8 +36,11 @@ struct Choice<'n> {
     cells: Cells<'n>,
 }
 
+// `choose`, `divided_at` and `below` are kept out of line: what they hold would else stand in the frame of each branch that the search
+// is in.
 impl<'n> Branch<'n> {
     // The transition with the least row, from the first that is not fixed on, over all orders of the cells.
+    #[inline(never)]
     fn choose(&self) -> Choice<'n>
         requires { self.now.fixed < self.now.cells.net.now.transitions }
         ensures here { result.cells.net.now ≡ self.now.cells.net.now }
@@ -48,9 +51,10 @@ impl<'n> Branch<'n> {
         // By index: the index of the least is the answer.
         for k in self.fixed + 1..self.cells.net.transitions as usize {
             let least = cells.row(self.order[index] as usize);
-            let Some((ordering, next)) = self.divided_at(k, &least) else {
+            if self.above(k, &least) {
                 continue;
-            };
+            }
+            let (ordering, next) = self.divided_at(k, &least);
             if ordering.is_lt() {
                 index = k;
                 cells = next;
@@ -59,24 +63,30 @@ impl<'n> Branch<'n> {
         Choice { index, cells }
     }
 
-    // The cells divided by the row of the transition at k, before them how that row compares with the least one; none where its
-    // label alone is above.
-    fn divided_at(&self, k: usize, least: &RowAlong) -> Option<(Ordering, Cells<'n>)>
+    // Whether the label of the transition at k alone is above that of the least row, so that its row is above in each order. A test
+    // of its own, before anything is divided: most transitions of a large net fall here.
+    fn above(&self, k: usize, least: &RowAlong) -> bool
         requires within { k < self.now.cells.net.now.transitions }
         requires here { least.now.net.now ≡ self.now.cells.net.now }
-        ensures here { IfSome result (λ d. d.1.net.now ≡ self.now.cells.net.now) }
-        ensures least { IfSome result (λ d. LeastRow (model_of self.now.cells.net.now) (at self.now.order k) (at self.now.cells.labels) (at d.1.labels) (at d.1.places)) }
-        ensures compared { IfSome result (λ d. Compares d.0 (row (model_of self.now.cells.net.now) (at d.1.places) (at self.now.order k)) (numbers_of least.now)) }
-        ensures above { let m = model_of self.now.cells.net.now in IfNone result (m.transition_label least.now.transition < m.transition_label (at self.now.order k)) }
+        ensures { let m = model_of self.now.cells.net.now in result ≡ true → m.transition_label least.now.transition < m.transition_label (at self.now.order k) }
     {
-        let net = self.cells.net;
+        let rows = &self.cells.net.rows;
+        rows[least.transition].label < rows[self.order[k] as usize].label
+    }
+
+    // The cells divided by the row of the transition at k, and before them how that row compares with the least one.
+    #[inline(never)]
+    fn divided_at(&self, k: usize, least: &RowAlong) -> (Ordering, Cells<'n>)
+        requires within { k < self.now.cells.net.now.transitions }
+        requires here { least.now.net.now ≡ self.now.cells.net.now }
+        ensures here { result.1.net.now ≡ self.now.cells.net.now }
+        ensures least { LeastRow (model_of self.now.cells.net.now) (at self.now.order k) (at self.now.cells.labels) (at result.1.labels) (at result.1.places) }
+        ensures compared { Compares result.0 (row (model_of self.now.cells.net.now) (at result.1.places) (at self.now.order k)) (numbers_of least.now) }
+    {
         let transition = self.order[k] as usize;
-        if net.rows[least.transition].label < net.rows[transition].label {
-            return None;
-        }
         let cells = self.cells.least_row(transition);
         let ordering = cells.row(transition).compare(least);
-        Some((ordering, cells))
+        (ordering, cells)
     }
 
     // Whether the best has the fixed rows, and then a row below the least one here.
@@ -94,6 +104,7 @@ impl<'n> Branch<'n> {
     }
 
     // The branch below this one with the transition at k fixed next, whose row is least, and the cells divided by that row.
+    #[inline(never)]
     fn below(&self, k: usize, cells: Cells<'n>) -> Branch<'n>
         requires here { cells.net.now ≡ self.now.cells.net.now }
         requires least { LeastRow (model_of self.now.cells.net.now) (at self.now.order k) (at self.now.cells.labels) (at cells.labels) (at cells.places) }
@@ -129,9 +140,10 @@ impl<'n> Branch<'n> {
         }
         // By index: the branch below exchanges the transition at k.
         for k in self.fixed..transitions {
-            let Some((ordering, next)) = self.divided_at(k, &least) else {
+            if self.above(k, &least) {
                 continue;
-            };
+            }
+            let (ordering, next) = self.divided_at(k, &least);
             if ordering.is_eq() {
                 self.below(k, next).descend(found);
             }

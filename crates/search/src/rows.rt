@@ -48,9 +48,11 @@ impl RowAlong<'_> {
         let n = net.places as usize;
         let (a, b) = (&ours[..n], &theirs[..n]);
         let (x, y) = (&net.rows[self.transition], &net.rows[other.transition]);
-        x.label
-            .cmp(&y.label)
-            .then_with(|| compare_weights(&x.cause, a, &y.cause, b))
-            .then_with(|| compare_weights(&x.effect, a, &y.effect, b))
+        // The labels apart: where an order of them was made first, the search took longer.
+        if x.label != y.label {
+            return x.label.cmp(&y.label);
+        }
+        let causes = compare_weights(&x.cause, a, &y.cause, b);
+        causes.then_with(|| compare_weights(&x.effect, a, &y.effect, b))
     }
 }

@@ -58,7 +58,7 @@ bytes_join a (suc n) q r l =
 
 -- n whole bytes out
 pub ink_out : (old : List ℕ) (v s : ℕ) (buf : List ℕ) (at wide n left : ℕ) → Inked old v s buf at wide (8 * n + left) →
-    Inked old v s (take at buf ++ (bytes_of n (wide / 2 ^ left) ++ drop n (drop at buf))) (at + n) (wide % 2 ^ left) left
+    Inked old v s (take at buf ++ (bytes_of n (wide / 2 ^ left) ++ drop (at + n) buf)) (at + n) (wide % 2 ^ left) left
 ink_out old v s buf at wide n left i =
     let q = v / 2 ^ (8 * n + left) in
     let h = v % 2 ^ (8 * n + left) in
@@ -74,8 +74,8 @@ ink_out old v s buf at wide n left i =
     let more : front ++ ready ≡ bytes_of (at + n) (v / 2 ^ left) =
     ap (λ (m : ℕ). front ++ bytes_of n m) byte ∙ sym (bytes_join at n q (h / 2 ^ left) small) ∙ ap (bytes_of (at + n)) (sym d) in
     let before : take at buf ≡ front = ap (take at) i.text ∙ take_at front (drop at old) at (length_bytes at q) in
-    let after : drop n (drop at buf) ≡ drop (at + n) old =
-    ap (λ (b : List ℕ). drop n (drop at b)) i.text ∙ ap (drop n) (drop_at front (drop at old) at (length_bytes at q)) ∙ drop-drop n at old in
+    let after : drop (at + n) buf ≡ drop (at + n) old =
+    sym (drop-drop n at buf) ∙ ap (λ (b : List ℕ). drop n (drop at b)) i.text ∙ ap (drop n) (drop_at front (drop at old) at (length_bytes at q)) ∙ drop-drop n at old in
     record {
       text = ap₂ (λ (x y : List ℕ). x ++ (ready ++ y)) before after
           ∙ sym (append_assoc front ready (drop (at + n) old))

@@ -10,6 +10,8 @@ use play::refusals::{AnswerRefusal, LeadRefusal, WithdrawRefusal};
 
 impl Game {
     /// Leads with a move on a side, and records the lead that an answer on the other side is owed to.
+    // Inlined into put, take and fire, each of which knows its sort of move: the loops over the places need not ask for it.
+    #[inline(always)]
     pub fn lead(&mut self, side: Side, step: Move) -> Result<Lead, LeadRefusal>
         ensures says { result ≡ lead_says (state_in self.old) side step.sort step.number }
         ensures after { state_in self.new ≡ led (state_in self.old) side step.sort step.number }

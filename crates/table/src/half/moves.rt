@@ -71,6 +71,15 @@ impl Half {
         self.held().get(usize::from(place)).copied().unwrap_or(0)
     }
 
+    // The tokens on a place that there is: `tokens_on` without its test, which the loops over the places do not need.
+    pub(crate) fn tokens_at(&self, place: u8) -> u32
+        requires { place < (net_of self.now).places }
+        ensures value { result ≡ at (held self.now) place }
+        ensures bound { result ≤ most_tokens }
+    {
+        self.tokens[usize::from(place)]
+    }
+
     /// How many tokens a bag of a move has on a place: the cause is what the move takes, the effect what it gives.
     #[tactic(auto, unfolding(bisimulation::specs::Rounds::unit))]
     pub fn weight(&self, bag: Bag, step: Move, place: u8) -> u8
@@ -92,9 +101,10 @@ impl Half {
 
     // Whether a place has the tokens that a move takes from it.
     fn has(&self, step: Move, place: u8) -> bool
+        requires { place < (net_of self.now).places }
         ensures { result ≡ nat_le (takes (net_of self.now) step.sort step.number place) (at (held self.now) place) }
     {
-        u32::from(self.weight(Bag::Cause, step, place)) <= self.tokens_on(place)
+        u32::from(self.weight(Bag::Cause, step, place)) <= self.tokens_at(place)
     }
 
     // A move whose cause the side covers.
@@ -127,6 +137,8 @@ impl Half {
     }
 
     /// The move of an answer to a lead on the other side, or why the answer is refused.
+    // Inlined, since a suggestion asks it of one number after the other, and most have another seat.
+    #[inline]
     pub fn reply(&self, lead: Lead, number: u8) -> Result<Shift<'_>, AnswerRefusal>
         ensures { Allows result self.now (record { sort = lead.sort; number = number }) tt (reply_says (seated_of self.now) (held self.now) lead.sort lead.seat.0 number) }
     {

@@ -1,5 +1,5 @@
 // What one side shows, and whether it accepts an answer.
-ghost use Rattle.std.specs.Prelude.{◌≡◌, ◌<◌, ◌≤◌, cond, ◌&&◌, ◌==◌};
+ghost use Rattle.std.specs.Prelude.{◌≡◌, ◌<◌, ◌≤◌, cond, nat_lt, ◌&&◌, ◌==◌};
 ghost use Rattle.arrangement.specs.Arrangements.{at};
 ghost use Rattle.play.specs.declared.kinds.Sort.TheVariants.{Fire};
 ghost use Rattle.play.specs.Moves.{most_tokens, covers};
@@ -53,9 +53,19 @@ impl Half {
 
     // Whether a transition has a label and can fire; labels are compared as in `labelled`.
     fn fires(&self, transition: u8, label: Label) -> bool
+        requires { transition < (net_of self.now).transitions }
         ensures { result ≡ ((net_of self.now).transition_label transition == label.0 && covers (net_of self.now) (held self.now) Fire transition) }
     {
         let transition = TransitionNo(transition);
-        label_number(&self.net, transition) == label.0 && self.covers(Move::fire(transition))
+        label_number(&self.net, transition) == label.0 && self.enables(transition)
+    }
+
+    // Whether a transition is there and can fire. It is kept out of line, so that the search for a label has no loop over the
+    // places inside and goes from row to row by one addition; and it tests the number here, so that no turn of that loop does.
+    #[inline(never)]
+    fn enables(&self, transition: TransitionNo) -> bool
+        ensures { result ≡ (nat_lt transition.0 (net_of self.now).transitions && covers (net_of self.now) (held self.now) Fire transition.0) }
+    {
+        transition.0 < self.net.transitions() && self.covers(Move::fire(transition))
     }
 }

@@ -47,6 +47,8 @@ impl Table {
     }
 
     // Leads with a move on a side, and hands out the due that an answer on the other side is owed to.
+    // Inlined, as `Game::lead` is.
+    #[inline(always)]
     fn lead(&mut self, side: Side, step: Move) -> Result<Due, LeadRefusal>
         ensures says { result ≡ handed (lead_says (state_of self.old) side step.sort step.number) }
         ensures after { state_of self.new ≡ led (state_of self.old) side step.sort step.number }

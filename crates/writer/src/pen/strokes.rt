@@ -28,11 +28,16 @@ impl<'b> Pen<'b> {
         let bits = (u32::from(self.held) << width) + u32::from(value);
         let count = self.count + width;
         let left = count % 8;
-        let whole = usize::from(count / 8);
-        let end = self.at + whole;
-        let ready = (bits >> left).to_be_bytes();
-        self.buffer[self.at..end].copy_from_slice(&ready[4 - whole..]);
-        self.at = end;
+        // The bytes go out by value: a copy out of the array, of a length that varies, would be a call in each push.
+        let [_, _, high, low] = (bits >> left).to_be_bytes();
+        if count >= 16 {
+            self.buffer[self.at] = high;
+            self.buffer[self.at + 1] = low;
+            self.at += 2;
+        } else if count >= 8 {
+            self.buffer[self.at] = low;
+            self.at += 1;
+        }
         self.held = (bits % (1 << left)) as u8;
         self.count = left;
     }

@@ -5,7 +5,7 @@ use Rattle.net.proofs.Empty.{lawful_empty}
 use Rattle.drawing.specs.Arrays.{Shows}
 use Rattle.drawing.specs.declared.arrays.Row.{Row}
 use Rattle.drawing.proofs.Held.{Holds, held, held_net, net_in}
-use Rattle.drawing.proofs.Made.{repeated}
+use Rattle.drawing.proofs.Filled.{repeated}
 use Rattle.drawing.proofs.Drawing.new.Goals as goal
 
 module _ (ls : List ℕ) (rs : List Row) (e : ls ≡ replicate 64 0) (f : rs ≡ replicate 128 (record { label = 0; cause = replicate 64 0; effect = replicate 64 0 })) where

@@ -1,9 +1,15 @@
-use Rattle.std.proofs.Common.{◌≡◌, sym, refl, rules, arith}
-use Rattle.drawing.proofs.Made.{made}
+use Rattle.std.proofs.Common.{arith}
+use Rattle.drawing.proofs.Filled.{filled_more, numbers_none, numbers_all}
 use Rattle.drawing.proofs.copy.place_labels.Goals as goal
 
+pub loop-p-init : goal.loop-p-init
+loop-p-init g c = numbers_none _
+
+pub loop-p-preserved : goal.loop-p-preserved
+loop-p-preserved g c = filled_more _ _ c.loop-p.invariant _ _ c.from.ensures
+    (omega (arith, c.places-p-end.ensures, (g.N.Net.lawful c.args.net.now).few_places))
+    c.label_number.ensures.0
+
 pub returns : goal.returns
-returns g c =
-    let lawful = g.N.Net.lawful c.args.net.now in
-    made (λ f. f.0.now ≡ c.args.net.now) (λ q label. label ≡ (g.N.Net.model c.args.net.now).place_label q) (λ f f' i x s h. search rules) 0 _ _ _ refl
-    c.from_fn.ensures.items (λ k l. sym (lawful.place_labels.1 k (omega (arith, lawful.few_places))))
+returns g c = numbers_all _ _ _ c.loop-p.invariant
+    (λ k l. (g.N.Net.lawful c.args.net.now).place_labels.1 k (omega (arith, c.places-p-end.ensures)))

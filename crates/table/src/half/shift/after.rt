@@ -16,10 +16,12 @@ impl Shift<'_> {
     {
         let off = self.half.weight(self.off, self.step, place);
         let on = self.half.weight(self.off.other(), self.step, place);
-        self.half.tokens_on(place) - u32::from(off) + u32::from(on)
+        self.half.tokens_at(place) - u32::from(off) + u32::from(on)
     }
 
     /// The tokens afterwards.
+    // Inlined, so that the bag that it takes off is known, and no turn of the loop asks for it.
+    #[inline(always)]
     pub fn tokens(&self) -> [u32; 64]
         ensures { take (net_of self.now.half.now).places result ≡ held_after self.now }
     {

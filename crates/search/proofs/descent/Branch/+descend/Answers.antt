@@ -60,8 +60,8 @@ loop-k-init t c = record {
   met = λ b ob x l m e. absurd (omega arith);
 }
 
-pub loop-k-preserved-in_default : goal.loop-k-preserved-in_default
-loop-k-preserved-in_default t c =
+pub loop-k-preserved-then-above : goal.loop-k-preserved-then-above
+loop-k-preserved-then-above t c =
     let s = c.args.self.now in
     let N : Model = model_of s.cells.net.now in
     let order = at s.order in
@@ -77,7 +77,7 @@ loop-k-preserved-in_default t c =
         | inl v ↦
             let l : N.transition_label (order k) ≡ N.transition_label (order index) = (row_parts N N b y (order k) (order index) refl (ap (λ (u : ℕ). row N b (order u)) (sym v) ∙ e ∙ least)).0 in
             let n : c.row-least.result.transition ≡ order index = c.row-least.ensures.named in
-            absurd (omega (arith, c.in_default.ensures.above, ap N.transition_label n))
+            absurd (omega (arith, c.above.ensures c.if-above.true, ap N.transition_label n))
         | inr v ↦ inv.met b ob z p (omega arith) e
       ];
     }
@@ -92,11 +92,11 @@ loop-k-preserved t c =
     let r : ℕ = s.fixed in
     let y = at c.choose-choice.result.cells.places in
     let index : ℕ = c.choose-choice.result.index in
-    let next : Cells = c.in-Some.next in
+    let next : Cells = c.divided_at-ordering.result.1 in
     let x = at next.places in
     let ch = c.choose-choice.ensures.chosen in
-    let l = c.in-Some.ensures.least in
-    let here = c.in-Some.ensures.here in
+    let l = c.divided_at-ordering.ensures.least in
+    let here = c.divided_at-ordering.ensures.here in
     let inv = c.loop-k.invariant in
     let least : numbers_of c.row-least.result ≡ row N y (order index) = row_same_net _ _ y (order index) c.choose-choice.ensures.here c.row-least.ensures.numbers in
     let before = at c.loop-k.found.best.places in
@@ -113,7 +113,7 @@ loop-k-preserved t c =
           × ((b : ℕ → ℕ) → OrderedBy n.places (at v.labels) b → at_most (rows_along (model_of n) after) (rows_along (model_of n) b) ≡ true) in
           let all : Q w.below.result.cells w.below.result.cells.net.now = (d.better, d.least) in
           let q : Q next s.cells.net.now = subst (λ (n : Arrays). Q next n) here (subst (λ (v : Cells). Q v v.net.now) w.below.ensures.cells all) in
-          let same : row N x (order k) ≡ numbers_of c.row-least.result = same_is c.in-Some.ordering _ _ c.in-Some.ensures.compared (sym c.is_eq.ensures ∙ w.if-is_eq.true) in
+          let same : row N x (order k) ≡ numbers_of c.row-least.result = same_is c.divided_at-ordering.result.0 _ _ c.divided_at-ordering.ensures.compared (sym c.is_eq.ensures ∙ w.if-is_eq.true) in
           subst P (sym w.found-is) (record {
             here = d.here ∙ inv.here;
             better = at_most_trans (rows_along N after) (rows_along N before) _ q.0 inv.better;
@@ -131,7 +131,7 @@ loop-k-preserved t c =
                   let equal : row N o (order k) ≡ row N y (order index) = ap (λ (u : ℕ). row N o (order u)) (sym v) ∙ e ∙ least in
                   let low : at_most (row N x (order k)) (row N y (order index)) ≡ true = subst (λ (u : List ℕ). at_most (row N x (order k)) u ≡ true) equal (least_low N (order k) C (at next.labels) x l o oo) in
                   let high : at_most (row N y (order index)) (row N x (order k)) ≡ true = ch.low x (least_coarse N (order k) C (at next.labels) x l x l.orders) k c.loop-k.auto.k c.loop-k-test.true in
-                  absurd (apart_is c.in-Some.ordering _ _ c.in-Some.ensures.compared (sym c.is_eq.ensures ∙ w.if-is_eq.false) (at_most_anti _ _ low high ∙ sym least))
+                  absurd (apart_is c.divided_at-ordering.result.0 _ _ c.divided_at-ordering.ensures.compared (sym c.is_eq.ensures ∙ w.if-is_eq.false) (at_most_anti _ _ low high ∙ sym least))
               | inr v ↦ inv.met o oo z p (omega arith) e
             ];
           })
@@ -146,12 +146,12 @@ below-requires-clause-chosen t c =
     let k : ℕ = c.loop-k.k in
     let y = at c.choose-choice.result.cells.places in
     let index : ℕ = c.choose-choice.result.index in
-    let next : Cells = c.in-Some.next in
+    let next : Cells = c.divided_at-ordering.result.1 in
     let x = at next.places in
     let ch = c.choose-choice.ensures.chosen in
-    let l = c.in-Some.ensures.least in
+    let l = c.divided_at-ordering.ensures.least in
     let least : numbers_of c.row-least.result ≡ row N y (order index) = row_same_net _ _ y (order index) c.choose-choice.ensures.here c.row-least.ensures.numbers in
-    let same : row N x (order k) ≡ row N y (order index) = same_is c.in-Some.ordering _ _ c.in-Some.ensures.compared (sym c.is_eq.ensures ∙ c.if-is_eq.true) ∙ least in
+    let same : row N x (order k) ≡ row N y (order index) = same_is c.divided_at-ordering.result.0 _ _ c.divided_at-ordering.ensures.compared (sym c.is_eq.ensures ∙ c.if-is_eq.true) ∙ least in
     record {
       late = c.loop-k.auto.k;
       early = c.loop-k-test.true;

@@ -31,8 +31,8 @@ loop-k-init c =
       low = at_most_more N C r r order _ x l x r (λ b ob z p q. absurd (omega arith)) (at_most_self (row N x (order r)));
     }
 
-pub loop-k-preserved-in_default : goal.loop-k-preserved-in_default
-loop-k-preserved-in_default c =
+pub loop-k-preserved-then-above : goal.loop-k-preserved-then-above
+loop-k-preserved-then-above c =
     let s = c.args.self.now in
     let inv = c.loop-k.invariant in
     record {
@@ -41,7 +41,7 @@ loop-k-preserved-in_default c =
       early = inv.early;
       orders = inv.orders;
       low = at_most_label (model_of s.cells.net.now) _ s.fixed c.loop-k.k (at s.order) (at c.loop-k.cells.places) c.loop-k.index inv.low
-          (subst (λ (u : ℕ). (model_of s.cells.net.now).transition_label u < (model_of s.cells.net.now).transition_label (at s.order c.loop-k.k)) c.row-least.ensures.named c.in_default.ensures.above);
+          (subst (λ (u : ℕ). (model_of s.cells.net.now).transition_label u < (model_of s.cells.net.now).transition_label (at s.order c.loop-k.k)) c.row-least.ensures.named (c.above.ensures c.if-above.true));
     }
 
 pub loop-k-preserved : goal.loop-k-preserved
@@ -54,12 +54,12 @@ loop-k-preserved c =
     let r : ℕ = s.fixed in
     let j : ℕ = c.loop-k.index in
     let old = at c.loop-k.cells.places in
-    let x = at c.in-Some.next.places in
-    let l = c.in-Some.ensures.least in
+    let x = at c.divided_at-ordering.result.1.places in
+    let l = c.divided_at-ordering.ensures.least in
     let inv = c.loop-k.invariant in
-    let o : Ordering = c.in-Some.ordering in
+    let o : Ordering = c.divided_at-ordering.result.0 in
     let met : Compares o (row N x (order k)) (row N old (order j)) =
-    compares_as o _ (numbers_of c.row-least.result) _ _ refl (row_same_net _ _ old (order j) inv.here c.row-least.ensures.numbers) c.in-Some.ensures.compared in
+    compares_as o _ (numbers_of c.row-least.result) _ _ refl (row_same_net _ _ old (order j) inv.here c.row-least.ensures.numbers) c.divided_at-ordering.ensures.compared in
     let P : ℕ → Cells → Type 0 = λ i v. record {
       here : v.net.now ≡ s.cells.net.now;
       late : r ≤ i;
@@ -69,7 +69,7 @@ loop-k-preserved c =
     } in
     elim c.if-is_lt.branch [
       | then-is_lt w ↦ subst (λ (i : ℕ). P i c.if-is_lt.cells) (sym w.index-is) (subst (λ (v : Cells). P k v) (sym w.cells-is) (record {
-        here = c.in-Some.ensures.here;
+        here = c.divided_at-ordering.ensures.here;
         late = omega (arith, c.loop-k.auto.k);
         early = c.loop-k-test.true;
         orders = least_coarse N (order k) C _ x l x l.orders;
