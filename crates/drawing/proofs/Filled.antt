@@ -38,6 +38,7 @@ numbers_none f = record { long = length-replicate {A = ℕ} 64 0; done = λ k l.
 pub numbers_all : (f : ℕ → ℕ) (i : ℕ) (xs : List ℕ) → Numbers f i xs → ((k : ℕ) → i ≤ k → f k ≡ 0) → (k : ℕ) → get_or xs k 0 ≡ f k
 numbers_all f i xs h past = filled_all i xs h (λ k x l e. e ∙ sym (past k l))
 
+-- an array of one element: what holds of it holds at each index, and past the end of what is read there
 pub repeated : {X : Type 0} (P : X → Type 0) (x d : X) → P x → P d → (n k : ℕ) → P (get_or (replicate n x) k d)
 repeated P x d here past zero k = past
 repeated P x d here past (suc n) zero = here

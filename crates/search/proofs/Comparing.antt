@@ -105,9 +105,15 @@ after Greater fs xs ys h = lower_front fs ys xs ∙ h
 
 -- what an ordering says of two lists, with equal numbers before them
 pub after_label : (o : Ordering) (x y : ℕ) (xs ys : List ℕ) → x ≡ y → Compares o xs ys → Compares o (x ∷ xs) (y ∷ ys)
-after_label Less x y xs ys e h = lower_tail x y xs ys e h
-after_label Equal x y xs ys e h = ap₂ ◌∷◌ e h
-after_label Greater x y xs ys e h = lower_tail y x ys xs (sym e) h
+after_label o x y xs ys e h = subst (λ (z : ℕ). Compares o (x ∷ xs) (z ∷ ys)) e (after o (x ∷ []) xs ys h)
+
+-- lists that are as two numbers that differ
+apart_compares : (x y : ℕ) (xs ys : List ℕ) → (x ≡ y → ⊥) → (x < y → lower xs ys ≡ true) → (y < x → lower ys xs ≡ true) → Compares (nat_cmp x y) xs ys
+apart_compares x y xs ys ne less greater = elim (cases_order x y) [
+  | inl e ↦ absurd (ne e)
+  | inr (inl l) ↦ subst (λ (o : Ordering). Compares o xs ys) (nat_cmp_is x y Less l) (less l)
+  | inr (inr l) ↦ subst (λ (o : Ordering). Compares o xs ys) (nat_cmp_is x y Greater l) (greater l)
+]
 
 -- two lists after fronts of one length, where the fronts decide unless they are equal
 pub then_compares : {P : Type 0} (o r : Ordering) (fs gs xs ys : List ℕ) → length fs ≡ length gs → Compares o fs gs → MatchOrdering o (r ≡ Less) P (r ≡ Greater) → (P → Compares r xs ys) → Compares r (fs ++ xs) (gs ++ ys)
@@ -131,11 +137,9 @@ read_lower f g (x ∷ xs) (y ∷ ys) (suc i) l m h d = lower_tail (f x) (g y) (m
 
 pub read_apart : (f g : ℕ → ℕ) (xs ys : List ℕ) (i : ℕ) → i < length xs → i < length ys → ((k : ℕ) → k < i → f (at xs k) ≡ g (at ys k)) → (f (at xs i) ≡ g (at ys i) → ⊥)
     → Compares (nat_cmp (f (at xs i)) (g (at ys i))) (map f xs) (map g ys)
-read_apart f g xs ys i l m h ne = elim (cases_order (f (at xs i)) (g (at ys i))) [
-  | inl e ↦ absurd (ne e)
-  | inr (inl d) ↦ subst (λ (o : Ordering). Compares o (map f xs) (map g ys)) (nat_cmp_is _ _ Less d) (read_lower f g xs ys i l m h d)
-  | inr (inr d) ↦ subst (λ (o : Ordering). Compares o (map f xs) (map g ys)) (nat_cmp_is _ _ Greater d) (read_lower g f ys xs i m l (λ k n. sym (h k n)) d)
-]
+read_apart f g xs ys i l m h ne = apart_compares _ _ (map f xs) (map g ys) ne
+    (read_lower f g xs ys i l m h)
+    (read_lower g f ys xs i m l (λ k n. sym (h k n)))
 
 -- what is read along the front of an order, as a table
 along_from : (f : ℕ → ℕ) (xs ys : List ℕ) (a n : ℕ) → n ≤ length xs → ((i : ℕ) → at ys (a + i) ≡ at xs i) → map f (take n xs) ≡ map (λ i. f (at ys i)) (range_with_len a n)
@@ -152,11 +156,7 @@ front_below xs n m h k d r = omega (arith, length-take n xs, r, get_or-take n xs
 
 -- rows whose labels differ are as their labels
 pub row_labels : (N : Model) (a b : ℕ → ℕ) (t u : ℕ) → (N.transition_label t ≡ N.transition_label u → ⊥) → Compares (nat_cmp (N.transition_label t) (N.transition_label u)) (row N a t) (row N b u)
-row_labels N a b t u ne = elim (cases_order (N.transition_label t) (N.transition_label u)) [
-  | inl e ↦ absurd (ne e)
-  | inr (inl l) ↦ subst (λ (o : Ordering). Compares o (row N a t) (row N b u)) (nat_cmp_is _ _ Less l) (row_label N a b t u l)
-  | inr (inr l) ↦ subst (λ (o : Ordering). Compares o (row N a t) (row N b u)) (nat_cmp_is _ _ Greater l) (row_label N b a u t l)
-]
+row_labels N a b t u ne = apart_compares _ _ (row N a t) (row N b u) ne (row_label N a b t u) (row_label N b a u t)
 
 -- an ordering as tests
 pub lower_is : (o : Ordering) (xs ys : List ℕ) → Compares o xs ys → is_lt o ≡ lower xs ys

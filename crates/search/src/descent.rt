@@ -1,5 +1,5 @@
 // The search through the cells: the least row comes next, and the places are divided by it.
-ghost use Rattle.std.specs.Prelude.{◌≡◌, ℕ, ◌+◌, ◌<◌, true};
+ghost use Rattle.std.specs.Prelude.{◌≡◌, ℕ, ◌+◌, ◌<◌, true, nat_lt};
 ghost use Rattle.finite.specs.Lexicographic.{lower, at_most};
 ghost use Rattle.finite.specs.Injections.{Injects};
 ghost use Rattle.drawing.specs.Arrays.{model_of};
@@ -68,7 +68,7 @@ impl<'n> Branch<'n> {
     fn above(&self, k: usize, least: &RowAlong) -> bool
         requires within { k < self.now.cells.net.now.transitions }
         requires here { least.now.net.now ≡ self.now.cells.net.now }
-        ensures { let m = model_of self.now.cells.net.now in result ≡ true → m.transition_label least.now.transition < m.transition_label (at self.now.order k) }
+        ensures { let m = model_of self.now.cells.net.now in result ≡ nat_lt (m.transition_label least.now.transition) (m.transition_label (at self.now.order k)) }
     {
         let rows = &self.cells.net.rows;
         rows[least.transition].label < rows[self.order[k] as usize].label

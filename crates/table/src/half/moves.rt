@@ -56,22 +56,7 @@ impl Half {
         }
     }
 
-    // The tokens on the places, in their order.
-    fn held(&self) -> &[u32]
-        ensures { result.now ≡ held self.now }
-    {
-        &self.tokens[..usize::from(self.net.places())]
-    }
-
-    /// The tokens on a place, and none past the last place.
-    pub fn tokens_on(&self, place: u8) -> u32
-        ensures value { result ≡ at (held self.now) place }
-        ensures bound { result ≤ most_tokens }
-    {
-        self.held().get(usize::from(place)).copied().unwrap_or(0)
-    }
-
-    // The tokens on a place that there is: `tokens_on` without its test, which the loops over the places do not need.
+    // The tokens on a place that there is. The loops over the places ask it of those alone, so it has no test.
     pub(crate) fn tokens_at(&self, place: u8) -> u32
         requires { place < (net_of self.now).places }
         ensures value { result ≡ at (held self.now) place }

@@ -27,11 +27,12 @@ impl Half {
     // The tokens on a place, if it has a label. Labels are compared as numbers: the words of play speak of the model, which has 0 past
     // the last node, and an `Option` would need a bound on the node.
     fn labelled(&self, place: u8, label: Label) -> u32
+        requires { place < (net_of self.now).places }
         ensures value { result ≡ cond ((net_of self.now).place_label place == label.0) (at (held self.now) place) 0 }
         ensures bound { result ≤ most_tokens }
     {
         if label_number(&self.net, PlaceNo(place)) == label.0 {
-            self.tokens_on(place)
+            self.tokens_at(place)
         } else {
             0
         }

@@ -1,5 +1,5 @@
 use Rattle.std.proofs.Common.{◌≡◌, ℕ, ◌+◌, ◌<◌, true, List, sym, refl, ap, ◌∙◌, subst, inl, inr, arith}
-use Rattle.std.proofs.lemmas.Bool.{cases_eq}
+use Rattle.std.proofs.lemmas.Bool.{cases_eq, ltb-true}
 use Rattle.finite.specs.Lexicographic.{lower, at_most}
 use Rattle.finite.proofs.Lexicographic.{at_most_anti, at_most_trans, at_most_self}
 use Rattle.net.specs.Model.{Model}
@@ -77,7 +77,7 @@ loop-k-preserved-then-above t c =
         | inl v ↦
             let l : N.transition_label (order k) ≡ N.transition_label (order index) = (row_parts N N b y (order k) (order index) refl (ap (λ (u : ℕ). row N b (order u)) (sym v) ∙ e ∙ least)).0 in
             let n : c.row-least.result.transition ≡ order index = c.row-least.ensures.named in
-            absurd (omega (arith, c.above.ensures c.if-above.true, ap N.transition_label n))
+            absurd (omega (arith, ltb-true _ _ (sym c.above.ensures ∙ c.if-above.true), ap N.transition_label n))
         | inr v ↦ inv.met b ob z p (omega arith) e
       ];
     }

@@ -1,4 +1,5 @@
 use Rattle.std.proofs.Common.{◌≡◌, ℕ, ◌+◌, ◌<◌, ◌≤◌, Ordering, sym, refl, ◌∙◌, subst, arith}
+use Rattle.std.proofs.lemmas.Bool.{ltb-true}
 use Rattle.finite.proofs.Lexicographic.{at_most_self}
 use Rattle.net.specs.Model.{Model}
 use Rattle.drawing.specs.Arrays.{model_of}
@@ -41,7 +42,7 @@ loop-k-preserved-then-above c =
       early = inv.early;
       orders = inv.orders;
       low = at_most_label (model_of s.cells.net.now) _ s.fixed c.loop-k.k (at s.order) (at c.loop-k.cells.places) c.loop-k.index inv.low
-          (subst (λ (u : ℕ). (model_of s.cells.net.now).transition_label u < (model_of s.cells.net.now).transition_label (at s.order c.loop-k.k)) c.row-least.ensures.named (c.above.ensures c.if-above.true));
+          (subst (λ (u : ℕ). (model_of s.cells.net.now).transition_label u < (model_of s.cells.net.now).transition_label (at s.order c.loop-k.k)) c.row-least.ensures.named (ltb-true _ _ (sym c.above.ensures ∙ c.if-above.true)));
     }
 
 pub loop-k-preserved : goal.loop-k-preserved
